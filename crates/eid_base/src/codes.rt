@@ -1,0 +1,15 @@
+/// The two status bytes of a reply, SW1 and SW2, as one number (ISO/IEC 7816-4).
+#[derive(Clone, Copy, Debug, PartialEq, Eq, Hash)]
+pub struct Status(pub u16);
+
+/// The number of the rule that a command failed; 0 is none. The numbers are this project's own.
+#[derive(Clone, Copy, Debug, PartialEq, Eq, Hash)]
+pub struct Rule(pub u8);
+
+/// Memory was asked for and refused.
+#[derive(Clone, Copy, Debug, PartialEq, Eq, Hash)]
+pub struct NoMemory;
+
+/// There is no room in a fixed buffer for what was to be written.
+#[derive(Clone, Copy, Debug, PartialEq, Eq, Hash)]
+pub struct Full;
