@@ -10,7 +10,7 @@ mod real;
 #[cfg(test)]
 mod tests;
 
-pub use codes::{Full, NoMemory, Rule, Status};
+pub use codes::{Full, NoMemory, Rule, RunError, Status};
 pub use memory::{MemoryFolder, MemorySink};
 pub use outside::{Folder, IoError, Sink};
 pub use points::{Point, Secret, Signature};
