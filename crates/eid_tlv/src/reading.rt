@@ -37,14 +37,8 @@ fn read_object(bytes: &[u8]) -> Result<(Tlv<'_>, &[u8]), TlvError>
     ensures found { IfOk result (λ r. BeginsWith bytes.now r.0.tag r.0.value.now r.1.now) }
     ensures refused { IfErr result (IsRefusal bytes.now) }
 {
-    let (tag, after_tag) = match read_tag(bytes) {
-        Ok(read) => read,
-        Err(refusal) => return Err(refusal),
-    };
-    let (size, after_length) = match read_length(after_tag) {
-        Ok(read) => read,
-        Err(refusal) => return Err(refusal),
-    };
+    let (tag, after_tag) = read_tag(bytes)?;
+    let (size, after_length) = read_length(after_tag)?;
     if after_length.len() < size {
         return Err(TlvError::Short);
     }
