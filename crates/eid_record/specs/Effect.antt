@@ -46,9 +46,10 @@ files_after effect files = files
 abbrev pub full_applied : PlainEffect → FullRecord → FullRecord
 full_applied effect full = record { fields = applied effect full.fields; files = files_after effect full.files }
 
--- the full record after a commit of the effect, which raises the commit number by one
+-- the fields after a commit of the effect, which raises the commit number by one
+abbrev pub committed_fields : PlainEffect → PlainRecord → PlainRecord
+committed_fields effect r = record (applied effect r) { number = r.number + 1 }
+
+-- the full record after a commit of the effect
 abbrev pub committed : PlainEffect → FullRecord → FullRecord
-committed effect full = record {
-  fields = record (applied effect full.fields) { number = full.fields.number + 1 };
-  files = files_after effect full.files;
-}
+committed effect full = record { fields = committed_fields effect full.fields; files = files_after effect full.files }
