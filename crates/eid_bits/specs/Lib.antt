@@ -1,3 +1,4 @@
 pub mod Template
 pub mod Date
 pub mod Dates
+pub mod Identifiers

@@ -1,11 +1,18 @@
-//! Authorisation templates and dates, as certificates and the chip's record spell them.
+//! Authorisation templates, dates and identifiers, as commands, certificates and the chip's record
+//! spell them.
 #![tactic(auto)]
 
 mod date;
+mod identifier;
+mod lookup;
 mod template;
 
 pub use date::{BadDate, Date6};
+pub use identifier::Known;
+pub use lookup::known;
 pub use template::{BadTemplate, Template};
 
+#[cfg(test)]
+mod identifier_tests;
 #[cfg(test)]
 mod tests;
