@@ -52,7 +52,7 @@ is_formed (Some SelectFile) body = length body == 2
 is_formed (Some ReadBinary) body = length body == 0
 
 -- the file that a READ means: of its short identifier, or the current one
-abbrev pub file_meant : Situation → Option ℕ
+unfoldable pub file_meant : Situation → Option ℕ
 file_meant s = if is_by_short s.command then file_of_short (s.command.p1 - 0x80) else s.state.current
 
 -- the offset that a READ begins at
@@ -65,7 +65,7 @@ is_named None s = true
 is_named (Some SelectApplication) s = bytes_eq s.command.body application_id
 is_named (Some SelectMasterFile) s = true
 is_named (Some SelectFile) s = is_some (file_of_id (number_of_two s.command.body))
-is_named (Some ReadBinary) s = not (is_by_short s.command) || is_some (file_of_short (s.command.p1 - 0x80))
+is_named (Some ReadBinary) s = not (is_by_short s.command) || is_some (file_meant s)
 
 -- the file's bytes, where it is present
 abbrev pub file_of : OpeningRecord → Option ℕ → Option (List ℕ)

@@ -42,7 +42,7 @@ found_text (Some n) = decimal n
 abbrev pub handled_text : PlainMoment → List ℕ
 handled_text m =
     line (codes " plain ") (plain_text m.plain) ++ line (codes " finished ") (decimal m.finished) ++ line (codes " rule ") (decimal m.rule)
-        ++ line (codes " answer ") (answer_text m.answer) ++ line (codes " sent ") (bytes_text m.sent)
+    ++ line (codes " answer ") (answer_text m.answer) ++ line (codes " sent ") (bytes_text m.sent)
 
 -- the bytes of a command, and what its moment says
 abbrev pub command_lines : List ℕ → PlainMoment → List ℕ

@@ -7,5 +7,4 @@ ghost use Rattle.eid_model.specs.Legal.{AreLegal};
 /// came determines what was answered.
 pub fn law_one_journal()
     ensures { (opening : OpeningRecord) (one other : List PlainMoment) → AreLegal opening one → AreLegal opening other → AreSteady one → AreSteady other → script one ≡ script other → one ≡ other }
-{
-}
+{}
