@@ -9,4 +9,4 @@ mod refusal;
 mod select;
 mod session;
 
-pub use chip::{Chip, Handled};
+pub use chip::{Chip, Handled, MAX_FILE};

@@ -1,0 +1,7 @@
+//! The simulator.
+#![tactic(auto)]
+
+mod image;
+mod script;
+
+fn main() {}
