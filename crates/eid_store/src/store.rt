@@ -37,6 +37,7 @@ impl Store {
         ensures cost { Mounts (mount_cost (E.cells cells.old)) (E.device cells.old) (E.device cells.new) result }
         // Layout 1 is mounted without a write.
         ensures no_write { slice_index (E.cells cells.old) 0 ≡ 1 → E.cells cells.new ≡ E.cells cells.old }
+        ensures no_cost { slice_index (E.cells cells.old) 0 ≡ 1 → E.device cells.new ≡ E.device cells.old }
     {
         match TwoSlot::mount(cells) {
             Ok(slots) => Ok(Store::Slots(slots)),
