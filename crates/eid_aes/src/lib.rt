@@ -1,0 +1,10 @@
+//! The block cipher AES, and cipher block chaining over it (FIPS 197; NIST SP 800-38A).
+#![tactic(auto)]
+
+mod cipher;
+mod steps;
+mod tables;
+#[cfg(test)]
+mod tests;
+
+pub use cipher::Aes;
