@@ -3,7 +3,15 @@
 #![tactic(auto)]
 
 mod codes;
+mod memory;
+mod outside;
 mod points;
+mod real;
+#[cfg(test)]
+mod tests;
 
-pub use codes::{Full, NoMemory, Rule, Status};
+pub use codes::{Full, NoMemory, Rule, RunError, Status};
+pub use memory::{MemoryFolder, MemorySink};
+pub use outside::{Folder, IoError, Sink};
 pub use points::{Point, Secret, Signature};
+pub use real::{RealFolder, RealSink};
