@@ -1,8 +1,8 @@
 -- Blocks by their places.
 use Rattle.std.proofs.Common.{◌≡◌, ℕ, ◌+◌, ◌*◌, ◌<◌, List, length, map, refl, sym, ap, ◌∙◌, get_or, bit_xor, arith}
 use Rattle.std.proofs.lemmas.Grind.{same_number_lists}
-use Rattle.eid_aes.specs.Cipher.{places, sub_bytes, inv_sub_bytes, xor_block, round_key}
-use Rattle.eid_aes.specs.Field.{sub, inv_sub}
+use Rattle.eid_aes.specs.Cipher.{places, inv_sub_bytes, xor_block, round_key}
+use Rattle.eid_aes.specs.Field.{inv_sub}
 use Rattle.eid_aes.proofs.TableFacts.{get_or-map_from}
 
 -- what stands at a place of a block that is given by its places
@@ -15,10 +15,6 @@ by_places f s len each = same_number_lists s (map f places) len (λ k h. each k 
 
 pub same_places : (f g : ℕ → ℕ) → ((k : ℕ) → k < 16 → f k ≡ g k) → map f places ≡ map g places
 same_places f g each = by_places g (map f places) refl (λ k h. at_place f k h ∙ each k h)
-
-pub sub_bytes_by_places : (s t : List ℕ) → length t ≡ 16 → ((k : ℕ) → k < 16 → get_or t k 0 ≡ sub (get_or s k 0)) → t ≡ sub_bytes s
-unfolding sub_bytes
-sub_bytes_by_places s t len each = by_places _ t len each
 
 pub inv_sub_bytes_by_places : (s t : List ℕ) → length t ≡ 16 → ((k : ℕ) → k < 16 → get_or t k 0 ≡ inv_sub (get_or s k 0)) → t ≡ inv_sub_bytes s
 unfolding inv_sub_bytes

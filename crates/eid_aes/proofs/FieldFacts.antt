@@ -35,7 +35,7 @@ sum-sums a b c d e f g h i j k l m n o p =
 
 -- ---- tests over all numbers below a bound
 
-abbrev each : ℕ → (ℕ → Bool) → Bool
+abbrev pub each : ℕ → (ℕ → Bool) → Bool
 each zero p = true
 each (suc n) p = p n && each n p
 
@@ -47,7 +47,7 @@ and_right : (a b : Bool) → (a && b) ≡ true → b ≡ true
 and_right true b h = h
 and_right false b h = cc
 
-each_at : (n : ℕ) (p : ℕ → Bool) (i : ℕ) → each n p ≡ true → i < n → p i ≡ true
+pub each_at : (n : ℕ) (p : ℕ → Bool) (i : ℕ) → each n p ≡ true → i < n → p i ≡ true
 each_at zero p i h below = absurd (omega arith)
 each_at (suc n) p i h below = elim (cases_lt i n) [
   | inl less ↦ each_at n p i (and_right (p n) (each n p) h) less
@@ -57,7 +57,7 @@ each_at (suc n) p i h below = elim (cases_lt i n) [
 ]
 
 -- two functions of two numbers that agree at each pair below a bound
-each_pair : (n m : ℕ) (f g : ℕ → ℕ → ℕ) (i j : ℕ) → each n (λ a. each m (λ b. nat_eq (f a b) (g a b))) ≡ true → i < n → j < m → f i j ≡ g i j
+pub each_pair : (n m : ℕ) (f g : ℕ → ℕ → ℕ) (i j : ℕ) → each n (λ a. each m (λ b. nat_eq (f a b) (g a b))) ≡ true → i < n → j < m → f i j ≡ g i j
 each_pair n m f g i j h below_n below_m =
     eqb-true (f i j) (g i j) (each_at m (λ b. nat_eq (f i b) (g i b)) j (each_at n (λ a. each m (λ b. nat_eq (f a b) (g a b))) i h below_n) below_m)
 

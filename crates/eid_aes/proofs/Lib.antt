@@ -5,3 +5,4 @@ pub mod RoundFacts
 pub mod FieldFacts
 pub mod Undone
 pub mod Chaining
+pub mod ColumnFacts

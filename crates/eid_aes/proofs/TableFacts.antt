@@ -38,18 +38,6 @@ INVERSE_SUBSTITUTION_at a h = of_table inv_sub INVERSE_SUBSTITUTION 256 a inv_su
 
 -- ---- products
 
-pub product_1 : (a : ℕ) → a < 256 → product 1 a ≡ a
-unfolding times_x product_of_bits product
-product_1 a h = agree (product 1) (λ b. b) 256 a refl h
-
-pub product_2 : (a : ℕ) → a < 256 → product 2 a ≡ times_x a
-unfolding times_x product_of_bits product
-product_2 a h = agree (product 2) times_x 256 a refl h
-
-pub product_3 : (a : ℕ) → a < 256 → product 3 a ≡ bit_xor (times_x a) a
-unfolding times_x product_of_bits product
-product_3 a h = agree (product 3) (λ b. bit_xor (times_x b) b) 256 a refl h
-
 pub product_9 : (a : ℕ) → a < 256 → product 9 a ≡ bit_xor (times_x (times_x (times_x a))) a
 unfolding times_x product_of_bits product
 product_9 a h = agree (product 9) (λ b. bit_xor (times_x (times_x (times_x b))) b) 256 a refl h

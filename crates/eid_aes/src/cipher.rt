@@ -4,9 +4,9 @@ ghost use Rattle.std.specs.Prelude.{◌≡◌, ℕ, ◌+◌, ◌-◌, ◌*◌, �
 ghost use Rattle.eid_aes.specs.Cipher.{word_at, turned_word, next_word, expanded, key_expansion, key_of, IsSchedule, IsBlock, cipher, inv_cipher};
 ghost use Rattle.eid_aes.specs.Cbc.{AreBlocks, cbc_encrypted, cbc_decrypted};
 
+use crate::columns::{added, after_last_round, after_round, block_of, columns_of};
 use crate::steps::{
-    Block, add_block, add_round_key, inv_mix_columns, inv_shift_rows, inv_sub_bytes, mix_columns,
-    shift_rows, sub, sub_bytes,
+    Block, add_block, add_round_key, inv_mix_columns, inv_shift_rows, inv_sub_bytes, sub,
 };
 use std::marker::Model;
 
@@ -43,16 +43,13 @@ impl<const ROUNDS: usize> Aes<ROUNDS> {
     pub fn encrypt(&self, block: &mut [u8; 16])
         ensures { block.new ≡ cipher self.now block.old }
     {
-        add_round_key(block, &self.schedule, 0);
+        let mut s = added(columns_of(block), &self.schedule, 0);
         for round in 1..ROUNDS {
-            sub_bytes(block);
-            shift_rows(block);
-            mix_columns(block);
-            add_round_key(block, &self.schedule, round);
+            let next = after_round(s, &self.schedule, round);
+            s = next;
         }
-        sub_bytes(block);
-        shift_rows(block);
-        add_round_key(block, &self.schedule, ROUNDS);
+        let encrypted = block_of(after_last_round(s, &self.schedule, ROUNDS));
+        *block = encrypted;
     }
 
     /// Decrypts a block in place.

@@ -2,6 +2,7 @@
 #![tactic(auto)]
 
 mod cipher;
+mod columns;
 mod steps;
 mod tables;
 #[cfg(test)]

@@ -1,8 +1,8 @@
-//! The steps of the rounds (FIPS 197, 5.1 and 5.3). A block's byte of row r and column c stands at r + 4 * c.
+//! The steps of the inverse cipher's rounds (FIPS 197, 5.3). A block's byte of row r and column c stands at r + 4 * c.
 
 ghost use Rattle.std.specs.Prelude.{◌≡◌, ℕ, ◌+◌, ◌*◌, ◌<◌, ◌≤◌, List, [], ◌∷◌, length};
 ghost use Rattle.eid_aes.specs.Field.{times_x, product, sub, inv_sub};
-ghost use Rattle.eid_aes.specs.Cipher.{sum_of_four, sub_bytes, inv_sub_bytes, shift_rows, inv_shift_rows, mix_columns, inv_mix_columns, xor_block, add_round_key};
+ghost use Rattle.eid_aes.specs.Cipher.{sum_of_four, inv_sub_bytes, inv_shift_rows, inv_mix_columns, xor_block, add_round_key};
 
 use crate::tables::{INVERSE_SUBSTITUTION, SUBSTITUTION};
 
@@ -34,16 +34,7 @@ fn inv_sub(byte: u8) -> u8
     INVERSE_SUBSTITUTION[byte as usize]
 }
 
-/// Substitutes each byte.
-pub fn sub_bytes(s: &mut Block)
-    ensures { s.new ≡ sub_bytes s.old }
-{
-    for byte in s.iter_mut() {
-        *byte = sub(*byte);
-    }
-}
-
-/// Undoes `sub_bytes`.
+/// Substitutes each byte by the inverse substitution.
 pub fn inv_sub_bytes(s: &mut Block)
     ensures { s.new ≡ inv_sub_bytes s.old }
 {
@@ -52,18 +43,7 @@ pub fn inv_sub_bytes(s: &mut Block)
     }
 }
 
-/// Moves row r by r columns to the left.
-#[tactic(auto, unfolding(crate::specs::Cipher::shift_rows))]
-pub fn shift_rows(s: &mut Block)
-    ensures { s.new ≡ shift_rows s.old }
-{
-    *s = [
-        s[0], s[5], s[10], s[15], s[4], s[9], s[14], s[3], s[8], s[13], s[2], s[7], s[12], s[1],
-        s[6], s[11],
-    ];
-}
-
-/// Undoes `shift_rows`.
+/// Moves row r by r columns to the right.
 #[tactic(auto, unfolding(crate::specs::Cipher::inv_shift_rows))]
 pub fn inv_shift_rows(s: &mut Block)
     ensures { s.new ≡ inv_shift_rows s.old }
@@ -72,14 +52,6 @@ pub fn inv_shift_rows(s: &mut Block)
         s[0], s[13], s[10], s[7], s[4], s[1], s[14], s[11], s[8], s[5], s[2], s[15], s[12], s[9],
         s[6], s[3],
     ];
-}
-
-// A byte's products with 01, 02 and 03.
-fn products(byte: u8) -> [u8; 3]
-    ensures { result ≡ product 0x01 byte ∷ product 0x02 byte ∷ product 0x03 byte ∷ [] }
-{
-    let twice = times_x(byte);
-    [byte, twice, twice ^ byte]
 }
 
 // A byte's products with 0e, 0b, 0d and 09.
@@ -94,25 +66,6 @@ fn inv_products(byte: u8) -> [u8; 4]
         eight_times ^ twice ^ byte,
         eight_times ^ four_times ^ byte,
         eight_times ^ byte,
-    ]
-}
-
-// A column multiplied by the matrix.
-fn mix_column(a: u8, b: u8, c: u8, d: u8) -> [u8; 4]
-    ensures { result ≡ sum_of_four (product 2 a) (product 3 b) (product 1 c) (product 1 d)
-        ∷ sum_of_four (product 1 a) (product 2 b) (product 3 c) (product 1 d)
-        ∷ sum_of_four (product 1 a) (product 1 b) (product 2 c) (product 3 d)
-        ∷ sum_of_four (product 3 a) (product 1 b) (product 1 c) (product 2 d) ∷ [] }
-{
-    let [a1, a2, a3] = products(a);
-    let [b1, b2, b3] = products(b);
-    let [c1, c2, c3] = products(c);
-    let [d1, d2, d3] = products(d);
-    [
-        a2 ^ b3 ^ c1 ^ d1,
-        a1 ^ b2 ^ c3 ^ d1,
-        a1 ^ b1 ^ c2 ^ d3,
-        a3 ^ b1 ^ c1 ^ d2,
     ]
 }
 
@@ -135,21 +88,7 @@ fn inv_mix_column(a: u8, b: u8, c: u8, d: u8) -> [u8; 4]
     ]
 }
 
-/// Multiplies each column by the matrix.
-#[tactic(auto, unfolding(crate::specs::Cipher::mix_columns))]
-pub fn mix_columns(s: &mut Block)
-    ensures { s.new ≡ mix_columns s.old }
-{
-    let [a0, a1, a2, a3] = mix_column(s[0], s[1], s[2], s[3]);
-    let [b0, b1, b2, b3] = mix_column(s[4], s[5], s[6], s[7]);
-    let [c0, c1, c2, c3] = mix_column(s[8], s[9], s[10], s[11]);
-    let [d0, d1, d2, d3] = mix_column(s[12], s[13], s[14], s[15]);
-    *s = [
-        a0, a1, a2, a3, b0, b1, b2, b3, c0, c1, c2, c3, d0, d1, d2, d3,
-    ];
-}
-
-/// Undoes `mix_columns`.
+/// Multiplies each column by the inverse matrix.
 #[tactic(auto, unfolding(crate::specs::Cipher::inv_mix_columns))]
 pub fn inv_mix_columns(s: &mut Block)
     ensures { s.new ≡ inv_mix_columns s.old }
