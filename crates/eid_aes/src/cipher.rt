@@ -10,8 +10,8 @@ use crate::steps::{
 };
 use std::marker::Model;
 
-/// The cipher AES under a key, with 10, 12 or 14 rounds for a key of 16, 24 or 32 bytes. A contract
-/// sees the key.
+/// The cipher AES under a key (FIPS 197): 10, 12 or 14 rounds for a key of 16, 24 or 32 bytes. The
+/// key is expanded once. A contract sees the key's bytes.
 #[derive(Drop)]
 pub struct Aes<const ROUNDS: usize> {
     // The key's expansion: a round key of 16 bytes for each round and one more, and bytes that
@@ -39,7 +39,7 @@ impl Aes<10> {
 }
 
 impl<const ROUNDS: usize> Aes<ROUNDS> {
-    /// Encrypts a block in place.
+    /// Encrypts a block in place (FIPS 197, 5.1).
     pub fn encrypt(&self, block: &mut [u8; 16])
         ensures { block.new ≡ cipher self.now block.old }
     {
@@ -52,7 +52,7 @@ impl<const ROUNDS: usize> Aes<ROUNDS> {
         *block = encrypted;
     }
 
-    /// Decrypts a block in place.
+    /// Decrypts a block in place (FIPS 197, 5.3): what encryption made is the plain block again.
     pub fn decrypt(&self, block: &mut [u8; 16])
         ensures value { block.new ≡ inv_cipher self.now block.old }
         ensures undone { (plain : List ℕ) → IsBlock plain → block.old ≡ cipher self.now plain → block.new ≡ plain }
@@ -70,7 +70,8 @@ impl<const ROUNDS: usize> Aes<ROUNDS> {
         add_round_key(block, &self.schedule, 0);
     }
 
-    /// Encrypts whole blocks in place by cipher block chaining, from the initialization vector `iv`.
+    /// Encrypts whole blocks of 16 bytes in place by cipher block chaining, from the initialization
+    /// vector `iv` (NIST SP 800-38A, 6.2).
     pub fn cbc_encrypt(&self, iv: &[u8; 16], bytes: &mut [u8])
         requires { length bytes.old % 16 ≡ 0 }
         ensures { bytes.new ≡ cbc_encrypted self.now iv.now bytes.old }
@@ -84,7 +85,8 @@ impl<const ROUNDS: usize> Aes<ROUNDS> {
         }
     }
 
-    /// Decrypts whole blocks in place by cipher block chaining, from the initialization vector `iv`.
+    /// Decrypts whole blocks of 16 bytes in place by cipher block chaining, from the initialization
+    /// vector `iv` (NIST SP 800-38A, 6.2): what encryption made are the plain bytes again.
     pub fn cbc_decrypt(&self, iv: &[u8; 16], bytes: &mut [u8])
         requires { length bytes.old % 16 ≡ 0 }
         ensures value { bytes.new ≡ cbc_decrypted self.now iv.now bytes.old }

@@ -1,4 +1,4 @@
-ghost use Rattle.std.specs.Prelude.{◌≡◌, ℕ, ◌≤◌, ◌↔◌, List, length, take, IsOk, OnOk, OnErr, IfSome, Some};
+ghost use Rattle.std.specs.Prelude.{◌≡◌, ℕ, ◌%◌, ◌<◌, ◌≤◌, ◌↔◌, List, length, take, IsOk, OnOk, OnErr, IfSome, Some};
 ghost use Rattle.eid_cmac.specs.Padding.{padding, padded};
 
 use arrayvec::ArrayVec;
@@ -18,6 +18,7 @@ fn padding(size: usize) -> &'static [u8]
 pub fn pad<const N: usize>(out: &mut ArrayVec<u8, N>) -> Result<(), Full>
     ensures exactly { IsOk result ↔ (length (padded out.old.items) ≤ N) }
     ensures ok { OnOk result (out.new.items ≡ padded out.old.items) }
+    ensures whole { OnOk result (length out.new.items % 16 ≡ 0) }
     ensures unchanged { OnErr result (out.new ≡ out.old) }
 {
     match out.try_extend_from_slice(padding(out.len())) {
@@ -26,9 +27,11 @@ pub fn pad<const N: usize>(out: &mut ArrayVec<u8, N>) -> Result<(), Full>
     }
 }
 
-/// The length of what was padded, or `None` exactly where the bytes are not a padded string.
+/// The length of what was padded by 80 and then 00 up to a multiple of 16 bytes (ISO/IEC 7816-4),
+/// or `None` exactly where the bytes are not a padded string.
 pub fn unpad(bytes: &[u8]) -> Option<usize>
     ensures found { IfSome result (λ n. bytes.now ≡ padded (take n bytes.now)) }
+    ensures within { IfSome result (λ n. n < length bytes.now) }
     ensures only { (message : List ℕ) → bytes.now ≡ padded message → result ≡ Some (length message) }
 {
     if bytes.len() % 16 != 0 {
