@@ -1,0 +1,9 @@
+//! The simulator.
+#![tactic(auto)]
+
+mod exit;
+mod image;
+mod run;
+mod script;
+
+fn main() {}
