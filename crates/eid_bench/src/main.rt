@@ -3,6 +3,9 @@
 //! code of N bytes; `both N` does the one and then the other.
 #![tactic(auto)]
 
+ghost use Rattle.std.specs.Prelude.{◌≡◌, IfOk, string_bytes};
+ghost use Rattle.eid_bench.specs.Answers.{cbc_answer, cmac_answer};
+
 use anyhow::Context;
 use eid_aes::Aes;
 use std::alloc::Global;
@@ -14,22 +17,25 @@ const KEY: [u8; 16] = [
 
 const FILL: u8 = 0x5a;
 
-fn encrypted(bytes: &mut [u8]) {
-    let whole = bytes.len() / 16 * 16;
-    Aes::<10>::new(&KEY).cbc_encrypt(&[0; 16], &mut bytes[..whole]);
-}
-
-fn cbc(alloc: Global, size: usize) -> anyhow::Result<String> {
-    let mut bytes = vec![in alloc; FILL; size]?;
-    encrypted(&mut bytes);
+// The last block of so many bytes, cut down to whole blocks, after they are encrypted.
+fn cbc(alloc: Global, size: usize) -> anyhow::Result<String>
+    ensures { IfOk result (λ text. string_bytes text ≡ cbc_answer KEY FILL size) }
+{
     let whole = size / 16 * 16;
-    let last = if whole < 16 { 0 } else { whole - 16 };
-    Ok(hex::encode(alloc, &bytes[last..whole])?)
+    let mut bytes = vec![in alloc; FILL; whole]?;
+    let key = Aes::<10>::new(&KEY);
+    key.cbc_encrypt(&[0; 16], &mut bytes);
+    let last = whole.saturating_sub(16);
+    Ok(hex::encode(alloc, &bytes[last..])?)
 }
 
-fn cmac(alloc: Global, size: usize) -> anyhow::Result<String> {
+// The code of so many bytes.
+fn cmac(alloc: Global, size: usize) -> anyhow::Result<String>
+    ensures { IfOk result (λ text. string_bytes text ≡ cmac_answer KEY FILL size) }
+{
     let bytes = vec![in alloc; FILL; size]?;
-    let code = eid_cmac::cmac(&Aes::<10>::new(&KEY), &bytes, &[], &[]);
+    let key = Aes::<10>::new(&KEY);
+    let code = eid_cmac::cmac(&key, &bytes, &[], &[]);
     Ok(hex::encode(alloc, code.as_slice())?)
 }
 
