@@ -59,8 +59,8 @@ broke_off opening old new lines line rest whole start before now parts tells run
       steady = (run.steady, part.made.steady);
       asked = (rest, rw (run.asked, part.made.asked) (append_assoc lines (line ∷ []) rest ∙ parts));
       written = λ told.
-        let grew = part.written (rw tells told) in
-        (trace run.journal ++ grew.0, (grew.0, grew.1, refl), grew.2 ∙ ap (λ (w : List ℕ). w ++ grew.0) (run.written told) ∙ append_assoc start.written (trace run.journal) grew.0);
+          let grew = part.written (rw tells told) in
+          (trace run.journal ++ grew.0, (grew.0, grew.1, refl), grew.2 ∙ ap (λ (w : List ℕ). w ++ grew.0) (run.written told) ∙ append_assoc start.written (trace run.journal) grew.0);
     }
 
 -- one line more was taken
@@ -71,6 +71,6 @@ taken_more lines i line within is = rw (take_more lines i line within, ← is, m
 pub taken_apart : (lines : List Line) (i : ℕ) (line : Line) → i < length lines → line ≡ get_or lines i line → map plain_line (take i lines) ++ plain_line line ∷ map plain_line (drop (i + 1) lines) ≡ map plain_line lines
 taken_apart lines i line within is =
     let front : map plain_line (take (i + 1) lines) ++ map plain_line (drop (i + 1) lines) ≡ map plain_line lines =
-        sym (map-append plain_line (take (i + 1) lines) (drop (i + 1) lines)) ∙ ap (map plain_line) (take-append-drop (i + 1) lines) in
+    sym (map-append plain_line (take (i + 1) lines) (drop (i + 1) lines)) ∙ ap (map plain_line) (take-append-drop (i + 1) lines) in
     sym (append_assoc (map plain_line (take i lines)) (plain_line line ∷ []) (map plain_line (drop (i + 1) lines)))
     ∙ ap (λ (l : List PlainLine). l ++ map plain_line (drop (i + 1) lines)) (sym (taken_more lines i line within is)) ∙ front

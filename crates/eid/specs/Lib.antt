@@ -3,3 +3,4 @@ pub mod Scripts
 pub mod Commands
 pub mod Runs
 pub mod Works
+pub mod Words

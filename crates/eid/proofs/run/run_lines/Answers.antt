@@ -11,9 +11,9 @@ returns-in-Err-clause-broke g c = λ opening fits.
     let seen = g.K.Sink.seen in
     let lines = c.args.lines.now in
     broke_off opening c.loop-line.chip c.run_line.new.chip (map plain_line (take c.loop-line.line-index lines)) (plain_line c.line-item.result)
-        (map plain_line (drop (c.loop-line.line-index + 1) lines)) (map plain_line lines) (seen c.args.out.now) (seen c.loop-line.out) (seen c.run_line.new.out)
-        (taken_apart lines c.loop-line.line-index c.line-item.result c.loop-line-test.true c.line-item.is)
-        c.loop-line.invariant.tells (c.loop-line.invariant.run opening fits) c.in-Err.ensures.broke
+    (map plain_line (drop (c.loop-line.line-index + 1) lines)) (map plain_line lines) (seen c.args.out.now) (seen c.loop-line.out) (seen c.run_line.new.out)
+    (taken_apart lines c.loop-line.line-index c.line-item.result c.loop-line-test.true c.line-item.is)
+    c.loop-line.invariant.tells (c.loop-line.invariant.run opening fits) c.in-Err.ensures.broke
 
 pub loop-line-preserved : goal.loop-line-preserved
 loop-line-preserved g c =

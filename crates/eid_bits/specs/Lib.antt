@@ -1,0 +1,3 @@
+pub mod Template
+pub mod Date
+pub mod Dates

@@ -1,0 +1,4 @@
+pub mod Cells
+pub mod Device
+pub mod Memory
+pub mod Tears

@@ -1,0 +1,9 @@
+pub mod Rooms
+pub mod PageBytes
+pub mod Costs
+pub mod Writes
+pub mod FileBytes
+pub mod SlotStands
+pub mod Turning
+pub mod Committed
+pub mod Fitting

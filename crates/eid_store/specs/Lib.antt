@@ -1,0 +1,10 @@
+pub mod Slots
+pub mod Stands
+pub mod Cost
+pub mod Pages
+pub mod NewRecord
+pub mod Turn
+pub mod Receipt
+pub mod Durable
+pub mod Fits
+pub mod Store

@@ -1,0 +1,19 @@
+//! The chip's record in its cells: mounting, reading files, and commits that a power cut leaves whole or undone.
+#![tactic(auto)]
+
+mod device;
+mod durable;
+mod files;
+mod gates;
+mod next;
+mod pages;
+mod receipt;
+mod slot;
+mod store;
+mod turn;
+mod two_slot;
+
+pub use durable::{Durable, MountError};
+pub use receipt::Receipt;
+pub use store::Store;
+pub use two_slot::TwoSlot;
