@@ -1,0 +1,11 @@
+pub mod Asks
+pub mod Asked
+pub mod Numbers
+pub mod Model
+pub mod Script
+pub mod Told
+pub mod ModelSeen
+pub mod ScriptSeen
+pub mod AnySeen
+pub mod Lines
+pub mod Refusal

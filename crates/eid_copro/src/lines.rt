@@ -1,0 +1,165 @@
+//! Answers as lines of text.
+ghost use Rattle.std.specs.Prelude.{◌≡◌, ◌≤◌, length, Ok, IfOk, IfErr, option_map};
+ghost use Rattle.std.specs.List.{after_first, before_first, position, slice_split};
+ghost use Rattle.eid_copro.specs.Refusal.{Refuses};
+ghost use Rattle.eid_copro.specs.Lines.{answer_in, answers_in, answers_of, bytes_of, is_line_end, is_space, line_answer, or_none, pair_in, verdict_in};
+
+use crate::ask::Answer;
+use hex::FromHex;
+use std::alloc::Global;
+
+/// Why a text is no list of answers.
+#[derive(Clone, Copy, Debug, PartialEq, Eq, Hash)]
+pub enum AnswersError {
+    /// The number of the first line that is none; 0 where the text is over 1,048,576 bytes.
+    Bad { line: u32 },
+    NoMemory,
+}
+
+const LONGEST: usize = 1_048_576;
+
+#[tactic(auto, unfolding(crate::specs::Lines::line_answer))]
+fn read_line(line: &[u8]) -> Option<Answer>
+    ensures { result ≡ line_answer line.now }
+{
+    if line == b"fault".as_slice() {
+        return Some(Answer::Fault);
+    }
+    let (word, rest) = cut(line);
+    read_answer(word, rest)
+}
+
+#[tactic(auto, unfolding(crate::specs::Lines::answer_in))]
+fn read_answer(word: &[u8], rest: &[u8]) -> Option<Answer>
+    ensures { result ≡ answer_in word.now rest.now }
+{
+    match word {
+        b"nonce" => read_nonce(rest),
+        b"challenge" => read_challenge(rest),
+        b"pair" => read_pair(rest),
+        b"map" => read_map(rest),
+        b"agree" => read_agree(rest),
+        b"verify" => read_verdict(rest),
+        b"sign" => read_signature(rest),
+        _ => None,
+    }
+}
+
+fn read_nonce(rest: &[u8]) -> Option<Answer>
+    ensures { result ≡ option_map (λ bytes. Answer.Nonce bytes) (bytes_of 16 rest.now) }
+{
+    read_bytes(rest).map(Answer::Nonce)
+}
+
+fn read_challenge(rest: &[u8]) -> Option<Answer>
+    ensures { result ≡ option_map (λ bytes. Answer.Challenge bytes) (bytes_of 8 rest.now) }
+{
+    read_bytes(rest).map(Answer::Challenge)
+}
+
+fn read_signature(rest: &[u8]) -> Option<Answer>
+    ensures { result ≡ option_map (λ bytes. Answer.Signed bytes) (bytes_of 64 rest.now) }
+{
+    read_bytes(rest).map(Answer::Signed)
+}
+
+#[tactic(auto, unfolding(crate::specs::Lines::pair_in))]
+fn read_pair(rest: &[u8]) -> Option<Answer>
+    ensures { result ≡ pair_in rest.now }
+{
+    let (secret, public) = cut(rest);
+    let secret = read_bytes(secret)?;
+    let public = read_bytes(public)?;
+    Some(Answer::Pair { secret, public })
+}
+
+fn read_map(rest: &[u8]) -> Option<Answer>
+    ensures { result ≡ or_none (λ bytes. Answer.Mapped bytes) 65 rest.now }
+{
+    if rest == b"none".as_slice() {
+        return Some(Answer::NoPoint);
+    }
+    read_bytes(rest).map(Answer::Mapped)
+}
+
+fn read_agree(rest: &[u8]) -> Option<Answer>
+    ensures { result ≡ or_none (λ bytes. Answer.Shared bytes) 32 rest.now }
+{
+    if rest == b"none".as_slice() {
+        return Some(Answer::NoPoint);
+    }
+    read_bytes(rest).map(Answer::Shared)
+}
+
+#[tactic(auto, unfolding(crate::specs::Lines::verdict_in))]
+fn read_verdict(rest: &[u8]) -> Option<Answer>
+    ensures { result ≡ verdict_in rest.now }
+{
+    if rest == b"yes".as_slice() {
+        return Some(Answer::Verdict(true));
+    }
+    if rest == b"no".as_slice() {
+        return Some(Answer::Verdict(false));
+    }
+    None
+}
+
+// So many bytes in hexadecimal.
+#[tactic(auto, unfolding(crate::specs::Lines::bytes_of))]
+fn read_bytes<const N: usize>(text: &[u8]) -> Option<[u8; N]>
+    ensures { result ≡ bytes_of N text.now }
+{
+    <[u8; N] as FromHex>::from_hex(text).ok()
+}
+
+// What stands before the first space, and what behind it.
+#[tactic(auto, using(crate::proofs::Cuts::found_at, crate::proofs::Cuts::not_found))]
+fn cut(line: &[u8]) -> (&[u8], &[u8])
+    ensures before { result.0.now ≡ before_first is_space line.now }
+    ensures behind { result.1.now ≡ after_first is_space line.now }
+{
+    match first_space(line) {
+        Some(at) => (&line[..at], &line[at + 1..]),
+        None => (line, &[]),
+    }
+}
+
+fn first_space(line: &[u8]) -> Option<usize>
+    ensures { result ≡ position is_space line.now }
+{
+    line.iter().position(|byte| *byte == b' ')
+}
+
+/// The answers in a text, one in a line. Empty lines are skipped.
+#[tactic(auto, using(crate::proofs::TextLines::too_long, crate::proofs::TextLines::short_enough))]
+pub fn read_answers(alloc: Global, text: &[u8]) -> Result<Vec<Answer>, AnswersError>
+    ensures read { IfOk result (λ answers. answers_of text.now ≡ Ok answers.items) }
+    ensures refused { IfErr result (Refuses (answers_of text.now)) }
+{
+    if text.len() > LONGEST {
+        return Err(AnswersError::Bad { line: 0 });
+    }
+    read_lines(alloc, text)
+}
+
+fn read_lines(alloc: Global, text: &[u8]) -> Result<Vec<Answer>, AnswersError>
+    requires { length text.now ≤ 1048576 }
+    ensures read { IfOk result (λ answers. answers_in 1 (slice_split is_line_end text.now) ≡ Ok answers.items) }
+    ensures refused { IfErr result (Refuses (answers_in 1 (slice_split is_line_end text.now))) }
+{
+    let mut answers = Vec::new(alloc);
+    let mut number = 0;
+    for line in text.split(|byte| *byte == b'\n') {
+        number += 1;
+        if line.is_empty() {
+            continue;
+        }
+        let Some(answer) = read_line(line) else {
+            return Err(AnswersError::Bad { line: number });
+        };
+        if answers.push(answer).is_err() {
+            return Err(AnswersError::NoMemory);
+        }
+    }
+    Ok(answers)
+}

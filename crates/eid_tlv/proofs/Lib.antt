@@ -1,0 +1,4 @@
+pub mod Forms
+pub mod Distinct
+pub mod Beginnings
+pub mod Sizes

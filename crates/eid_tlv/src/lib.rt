@@ -1,0 +1,12 @@
+//! Data objects in BER-TLV (ISO/IEC 7816-4), with tags of one or two bytes and lengths up to
+//! 65,535 in their shortest form.
+#![tactic(auto)]
+
+mod reading;
+mod writing;
+
+pub use reading::{Tlv, TlvError, next};
+pub use writing::put;
+
+#[cfg(test)]
+mod tests;
