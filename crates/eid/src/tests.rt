@@ -6,15 +6,25 @@ use eid_base::{MemoryFolder, MemorySink};
 use std::alloc::AllocError;
 use std::test::Fail;
 
-/// A plain image with this EF.CardAccess.
-fn image(rt: &HostRuntime, access: &[u8]) -> Result<Vec<u8>, AllocError> {
-    let length = (access.len() % 65536) as u16;
+/// The bytes of an image of this size, with this byte 0, this length, and these bytes behind it.
+fn image_with(
+    rt: &HostRuntime,
+    layout: u8,
+    length: u16,
+    access: &[u8],
+    size: usize,
+) -> Result<Vec<u8>, AllocError> {
     let mut bytes = Vec::new(rt.alloc());
-    bytes.push(0)?;
+    bytes.push(layout)?;
     bytes.extend_from_slice(&length.to_be_bytes())?;
     bytes.extend_from_slice(access)?;
-    bytes.resize(65536, 0)?;
+    bytes.resize(size, 0)?;
     Ok(bytes)
+}
+
+/// A plain image with this EF.CardAccess.
+fn image(rt: &HostRuntime, access: &[u8]) -> Result<Vec<u8>, AllocError> {
+    image_with(rt, 0, (access.len() % 65536) as u16, access, 65_536)
 }
 
 /// The words of a command line.
@@ -242,19 +252,20 @@ fn a_text_that_is_no_script_is_refused(rt: HostRuntime) -> Result<(), Fail> {
 
 #[test]
 fn bytes_that_are_no_image_are_refused(rt: HostRuntime) -> Result<(), Fail> {
-    let good = image(&rt, &[0x31, 0x00])?;
-    let mut other = Vec::from_slice(rt.alloc(), good.as_slice())?;
-    other.truncate(65_535);
-    assert!(rt; ends(&rt, other.as_slice(), b"on", Exit::BadImage, b"")?);
-    other.resize(65_537, 0)?;
-    assert!(rt; ends(&rt, other.as_slice(), b"on", Exit::BadImage, b"")?);
-    let mut layout = Vec::from_slice(rt.alloc(), good.as_slice())?;
-    layout[0] = 1;
-    assert!(rt; ends(&rt, layout.as_slice(), b"on", Exit::BadImage, b"")?);
-    let mut length = Vec::from_slice(rt.alloc(), good.as_slice())?;
-    length[1] = 8;
-    length[2] = 1;
-    assert!(rt; ends(&rt, length.as_slice(), b"on", Exit::BadImage, b"")?);
+    for (layout, length, size) in [
+        (0, 2, 65_535),
+        (0, 2, 65_537),
+        (1, 2, 65_536),
+        (0, 2_049, 65_536),
+    ] {
+        let bad = image_with(&rt, layout, length, &[0x31, 0x00], size)?;
+        assert!(rt;
+            ends(&rt, bad.as_slice(), b"on", Exit::BadImage, b"")?,
+            "{layout} {length} {size}"
+        );
+    }
+    let longest = image_with(&rt, 0, 2_048, &[0x31, 0x00], 65_536)?;
+    assert!(rt; ends(&rt, longest.as_slice(), b"on", Exit::Done, b"on 0\n")?);
     Ok(())
 }
 
