@@ -111,7 +111,7 @@ write_range effect r can file offset bytes is = subst (λ (e : PlainEffect). Can
 -- ---- the room of the other slot after the turn
 
 -- fixed bytes, files and anything behind them
-full_written : (fixed files more : List ℕ) (fields : PlainRecord) → length fixed ≡ 448 → record_in fixed ≡ Ok fields → length files ≡ total fields.lengths
+pub full_written : (fixed files more : List ℕ) (fields : PlainRecord) → length fixed ≡ 448 → record_in fixed ≡ Ok fields → length files ≡ total fields.lengths
     → full_in ((fixed ++ files) ++ more) ≡ Some (full_of fields files)
 unfolding full_in
 full_written fixed files more fields long read size_is =

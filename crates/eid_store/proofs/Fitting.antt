@@ -1,5 +1,5 @@
 -- A store of two slots and the cells that it fits.
-use Rattle.std.proofs.Common.{◌≡◌, ◌≢◌, ℕ, ◌+◌, ◌≤◌, Bool, true, false, cond, eqb, List, length, take, drop, slice_index, slice_range, Option, Some, None, Result, Ok, Err, IsTrue, refl, sym, ap, subst, ◌∙◌, arith, inl, inr}
+use Rattle.std.proofs.Common.{◌≡◌, ◌≢◌, ℕ, ◌+◌, ◌≤◌, Bool, true, false, cond, eqb, List, ◌++◌, length, take, drop, slice_index, slice_range, Option, Some, None, Result, Ok, Err, IsTrue, refl, sym, ap, subst, ◌∙◌, arith, inl, inr}
 use Rattle.std.specs.Prelude.{IsSomeAnd, slice_index_or}
 use Rattle.std.specs.Option.{option_map, option_and_then}
 use Rattle.std.proofs.lemmas.Bool.{eqb-true, ne_eqb}
@@ -13,9 +13,10 @@ use Rattle.eid_record.specs.Effect.{CanApply, HasRange, committed_fields, commit
 use Rattle.eid_record.specs.Files.{total, full_in, full_read, full_of, files_in, file_range}
 use Rattle.eid_record.specs.View.{record_view}
 use Rattle.eid_store.specs.declared.slot.Slot.{Slot}
+use Rattle.eid_store.specs.declared.slot.Slot.TheVariants.{A, B}
 use Rattle.eid_store.specs.declared.next.NewRecord.{NewRecord}
 use Rattle.eid_store.specs.declared.two_slot.TwoSlot.{TwoSlot}
-use Rattle.eid_store.specs.Slots.{record_of, other_of, room_of, current}
+use Rattle.eid_store.specs.Slots.{record_of, other_of, is_open, room_of, current}
 use Rattle.eid_store.specs.Pages.{change_place, change_bytes}
 use Rattle.eid_store.specs.Stands.{record_in_slot, two_slot_stands}
 use Rattle.eid_store.specs.Fits.{two_slot_fields, TwoSlotFits}
@@ -25,7 +26,7 @@ use Rattle.eid_store.specs.Durable.{IsAllOrNothing}
 use Rattle.eid_store.proofs.Rooms.{length-room, room_part}
 use Rattle.eid_store.proofs.FileBytes.{file_range-is, range_inside}
 use Rattle.eid_store.proofs.SlotStands.{Holds, stands_where_held, held_alone, held_still}
-use Rattle.eid_store.proofs.Committed.{full_parts, valid_fields, total-fits, IsNextOf, after_turn, change-inside}
+use Rattle.eid_store.proofs.Committed.{full_parts, valid_fields, total-fits, IsNextOf, after_turn, change-inside, full_written}
 
 -- ---- what stands where
 
@@ -190,3 +191,15 @@ prepared store effect device old next long fits can fixed read size place bytes 
   };
   is = record { can = can; fixed = read; size = size; place = place; bytes = bytes };
 }
+
+-- ---- cells whose slot A alone is open, as they are personalised
+
+pub first_slot_stands : (cells fixed files more : List ℕ) (fields : PlainRecord) → slice_index cells 0 ≡ 1 → is_open A cells ≡ true → is_open B cells ≡ false
+    → room_of A cells ≡ (fixed ++ files) ++ more → length fixed ≡ 448 → record_in fixed ≡ Ok fields → length files ≡ total fields.lengths
+    → two_slot_stands cells ≡ Some (full_of fields files)
+first_slot_stands cells fixed files more fields layout opened closed room long read size =
+    stands_where_held A (full_of fields files) cells (record {
+      layout = layout;
+      counts = rw (opened, closed) refl;
+      record_is = ap full_in room ∙ full_written fixed files more fields long read size;
+    })

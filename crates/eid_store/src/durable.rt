@@ -46,11 +46,14 @@ pub trait Durable: Sized {
     fn mount<E: Eeprom>(cells: &mut E) -> Result<Self, MountError>
         requires power { IsTrue (E.device cells.old).has_power }
         ensures fits { IfOk result (λ store. fits store (E.device cells.new) (E.cells cells.new)) }
-        ensures bad_image { (result ≡ Err MountError.BadImage) ↔ (stands (E.cells cells.old) ≡ None) }
-        ensures untouched { result ≡ Err MountError.BadImage → E.cells cells.new ≡ E.cells cells.old }
+        ensures bad_image { (result ≡ Err MountError.BadImage)
+            ↔ (stands (E.cells cells.old) ≡ None) }
+        ensures untouched { result ≡ Err MountError.BadImage
+            → E.cells cells.new ≡ E.cells cells.old }
         ensures same { stands (E.cells cells.new) ≡ stands (E.cells cells.old) }
         ensures layout { slice_index (E.cells cells.new) 0 ≡ slice_index (E.cells cells.old) 0 }
-        ensures cost { Mounts (mount_cost (E.cells cells.old)) (E.device cells.old) (E.device cells.new) result };
+        ensures cost { Mounts (mount_cost (E.cells cells.old))
+            (E.device cells.old) (E.device cells.new) result };
 
     /// The record's fields, which are those that the cells stand for.
     fn kept(&self) -> &Record
@@ -60,7 +63,8 @@ pub trait Durable: Sized {
     fn read_file<E: Eeprom>(&self, cells: &E, file: FileNo, offset: u16, into: &mut [u8])
         requires fits { fits self.now (E.device cells.now) (E.cells cells.now) }
         requires range { HasRange (fields self.now).lengths file.0 offset (length into.old) }
-        ensures { option_and_then (file_range file.0 offset (length into.old)) (stands (E.cells cells.now)) ≡ Some into.new };
+        ensures { option_and_then (file_range file.0 offset (length into.old))
+            (stands (E.cells cells.now)) ≡ Some into.new };
 
     /// Commits the effect and raises the commit number by one. At `Ok` the cells stand for the record after it. After
     /// `Cut` they stand for the record before it or after it, and the store is mounted anew.
@@ -68,10 +72,14 @@ pub trait Durable: Sized {
         requires fits { fits self.old (E.device cells.old) (E.cells cells.old) }
         requires effect { CanApply (effect_view effect.now) (fields self.old) }
         requires number { (fields self.old).number < 4294967295 }
-        ensures committed { OnOk result (stands (E.cells cells.new) ≡ option_map (committed (effect_view effect.now)) (stands (E.cells cells.old))) }
+        ensures committed { OnOk result (stands (E.cells cells.new)
+            ≡ option_map (committed (effect_view effect.now)) (stands (E.cells cells.old))) }
         ensures fits { OnOk result (fits self.new (E.device cells.new) (E.cells cells.new)) }
-        ensures receipt { IfOk result (λ receipt. (receipt_number receipt ≡ (fields self.old).number + 1) × (receipt_spends receipt ≡ is_spend (effect_view effect.now))) }
-        ensures cut { OnErr result (IsAllOrNothing (effect_view effect.now) (stands (E.cells cells.old)) (stands (E.cells cells.new))) }
+        ensures receipt { IfOk result (λ receipt. (receipt_number receipt ≡ (fields self.old).number + 1)
+            × (receipt_spends receipt ≡ is_spend (effect_view effect.now))) }
+        ensures cut { OnErr result (IsAllOrNothing (effect_view effect.now)
+            (stands (E.cells cells.old)) (stands (E.cells cells.new))) }
         ensures layout { slice_index (E.cells cells.new) 0 ≡ slice_index (E.cells cells.old) 0 }
-        ensures cost { Costs (commit_cost self.old (E.cells cells.old) (effect_view effect.now)) (E.device cells.old) (E.device cells.new) result };
+        ensures cost { Costs (commit_cost self.old (E.cells cells.old) (effect_view effect.now))
+            (E.device cells.old) (E.device cells.new) result };
 }

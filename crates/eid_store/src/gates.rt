@@ -22,7 +22,8 @@ pub fn close_gate<E: Eeprom>(cells: &mut E, slot: Slot) -> Result<(), Cut>
     ensures closed { OnOk result (is_open slot (E.cells cells.new) ≡ false) }
     ensures was_open { OnErr result (is_open slot (E.cells cells.old) ≡ true) }
     ensures same { SameOutside (gate_of slot) 1 (E.cells cells.old) (E.cells cells.new) }
-    ensures cost { Costs (once (is_open slot (E.cells cells.old))) (E.device cells.old) (E.device cells.new) result }
+    ensures cost { Costs (once (is_open slot (E.cells cells.old)))
+        (E.device cells.old) (E.device cells.new) result }
 {
     if !is_open(cells, slot) {
         return Ok(());

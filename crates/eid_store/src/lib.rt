@@ -17,3 +17,6 @@ pub use durable::{Durable, MountError};
 pub use receipt::Receipt;
 pub use store::Store;
 pub use two_slot::TwoSlot;
+
+#[cfg(test)]
+mod tests;

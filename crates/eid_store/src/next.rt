@@ -27,7 +27,8 @@ pub fn advance(kept: &mut Record, effect: &Effect<'_>, fixed: &mut [u8; 448])
     requires valid { IsValid (record_view kept.old) }
     requires effect { CanApply (effect_view effect.now) (record_view kept.old) }
     requires number { kept.old.number < 4294967295 }
-    ensures fields { record_view kept.new ≡ committed_fields (effect_view effect.now) (record_view kept.old) }
+    ensures fields { record_view kept.new
+        ≡ committed_fields (effect_view effect.now) (record_view kept.old) }
     ensures bytes { record_in fixed.new ≡ Ok (record_view kept.new) }
 {
     apply(kept, effect);

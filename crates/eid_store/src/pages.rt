@@ -15,7 +15,8 @@ use eid_cells::{Cut, Eeprom};
 /// The byte of the files at this place after the change, where before it this one stands there: 00 behind the last file.
 fn new_byte(stands: u8, place: u32, next: &NewRecord<'_>) -> u8
     requires { IsReady next.now }
-    ensures { (files : List ℕ) → length files ≡ next.now.size → (place < next.now.size → stands ≡ slice_index files place)
+    ensures { (files : List ℕ) → length files ≡ next.now.size
+        → (place < next.now.size → stands ≡ slice_index files place)
         → result ≡ slice_index (replaced next.now.change_at next.now.change.now files) place }
 {
     if place >= next.size {
@@ -35,7 +36,8 @@ fn page<E: Eeprom>(cells: &E, source: Slot, next: &NewRecord<'_>, index: u32) ->
     requires power { IsTrue (E.device cells.now).has_power }
     requires ready { IsReady next.now }
     requires index { index < page_count next.now.size }
-    ensures { result ≡ page_of index (filled (page_count next.now.size) (next_bytes next.now (room_of source (E.cells cells.now)))) }
+    ensures { result ≡ page_of index
+        (filled (page_count next.now.size) (next_bytes next.now (room_of source (E.cells cells.now)))) }
 {
     let start = PAGE * index;
     let mut page = [0; 64];
@@ -69,9 +71,12 @@ fn change_page(page: &mut [u8; 64], place: u32, next: &NewRecord<'_>)
 pub fn write_pages<E: Eeprom>(cells: &mut E, source: Slot, next: &NewRecord<'_>) -> Result<(), Cut>
     requires power { IsTrue (E.device cells.old).has_power }
     requires ready { IsReady next.now }
-    ensures written { OnOk result (E.cells cells.new ≡ patched (record_of (other_of source)) (filled (page_count next.now.size) (next_bytes next.now (room_of source (E.cells cells.old)))) (E.cells cells.old)) }
+    ensures written { OnOk result (E.cells cells.new ≡ patched (record_of (other_of source))
+        (filled (page_count next.now.size) (next_bytes next.now (room_of source (E.cells cells.old))))
+        (E.cells cells.old)) }
     ensures same { SameOutside (record_of (other_of source)) 24448 (E.cells cells.old) (E.cells cells.new) }
-    ensures cost { Costs (page_count next.now.size) (E.device cells.old) (E.device cells.new) result }
+    ensures cost { Costs (page_count next.now.size)
+        (E.device cells.old) (E.device cells.new) result }
 {
     let target = source.other();
     let pages = (448 + next.size + 63) / PAGE;

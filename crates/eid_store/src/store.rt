@@ -30,13 +30,19 @@ impl Store {
     pub fn mount<E: Eeprom>(cells: &mut E) -> Result<Store, MountError>
         requires power { IsTrue (E.device cells.old).has_power }
         ensures fits { IfOk result (λ store. Fits store (E.device cells.new) (E.cells cells.new)) }
-        ensures bad_image { (result ≡ Err MountError.BadImage) ↔ (stands (E.cells cells.old) ≡ None) }
-        ensures untouched { result ≡ Err MountError.BadImage → E.cells cells.new ≡ E.cells cells.old }
+        ensures bad_image { (result ≡ Err MountError.BadImage)
+            ↔ (stands (E.cells cells.old) ≡ None) }
+        ensures untouched { result ≡ Err MountError.BadImage
+            → E.cells cells.new ≡ E.cells cells.old }
         ensures same { stands (E.cells cells.new) ≡ stands (E.cells cells.old) }
         ensures layout { slice_index (E.cells cells.new) 0 ≡ slice_index (E.cells cells.old) 0 }
-        ensures cost { Mounts (mount_cost (E.cells cells.old)) (E.device cells.old) (E.device cells.new) result }
+        ensures cost { Mounts (mount_cost (E.cells cells.old))
+            (E.device cells.old) (E.device cells.new) result }
         // Layout 1 is mounted without a write.
-        ensures no_write { slice_index (E.cells cells.old) 0 ≡ 1 → E.cells cells.new ≡ E.cells cells.old }
+        ensures no_write { slice_index (E.cells cells.old) 0 ≡ 1
+            → E.cells cells.new ≡ E.cells cells.old }
+        ensures no_cost { slice_index (E.cells cells.old) 0 ≡ 1
+            → E.device cells.new ≡ E.device cells.old }
     {
         match TwoSlot::mount(cells) {
             Ok(slots) => Ok(Store::Slots(slots)),
@@ -57,7 +63,8 @@ impl Store {
     pub fn read_file<E: Eeprom>(&self, cells: &E, file: FileNo, offset: u16, into: &mut [u8])
         requires fits { Fits self.now (E.device cells.now) (E.cells cells.now) }
         requires range { HasRange (fields_of self.now).lengths file.0 offset (length into.old) }
-        ensures { option_and_then (file_range file.0 offset (length into.old)) (stands (E.cells cells.now)) ≡ Some into.new }
+        ensures { option_and_then (file_range file.0 offset (length into.old))
+            (stands (E.cells cells.now)) ≡ Some into.new }
     {
         match self {
             Store::Slots(slots) => slots.read_file(cells, file, offset, into),
@@ -70,12 +77,16 @@ impl Store {
         requires fits { Fits self.old (E.device cells.old) (E.cells cells.old) }
         requires effect { CanApply (effect_view effect.now) (fields_of self.old) }
         requires number { (fields_of self.old).number < 4294967295 }
-        ensures committed { OnOk result (stands (E.cells cells.new) ≡ option_map (committed (effect_view effect.now)) (stands (E.cells cells.old))) }
+        ensures committed { OnOk result (stands (E.cells cells.new)
+            ≡ option_map (committed (effect_view effect.now)) (stands (E.cells cells.old))) }
         ensures fits { OnOk result (Fits self.new (E.device cells.new) (E.cells cells.new)) }
-        ensures receipt { IfOk result (λ receipt. (receipt_number receipt ≡ (fields_of self.old).number + 1) × (receipt_spends receipt ≡ is_spend (effect_view effect.now))) }
-        ensures cut { OnErr result (IsAllOrNothing (effect_view effect.now) (stands (E.cells cells.old)) (stands (E.cells cells.new))) }
+        ensures receipt { IfOk result (λ receipt. (receipt_number receipt ≡ (fields_of self.old).number + 1)
+            × (receipt_spends receipt ≡ is_spend (effect_view effect.now))) }
+        ensures cut { OnErr result (IsAllOrNothing (effect_view effect.now)
+            (stands (E.cells cells.old)) (stands (E.cells cells.new))) }
         ensures layout { slice_index (E.cells cells.new) 0 ≡ slice_index (E.cells cells.old) 0 }
-        ensures cost { Costs (commit_cost self.old (E.cells cells.old) (effect_view effect.now)) (E.device cells.old) (E.device cells.new) result }
+        ensures cost { Costs (commit_cost self.old (E.cells cells.old) (effect_view effect.now))
+            (E.device cells.old) (E.device cells.new) result }
     {
         match self {
             Store::Slots(slots) => slots.commit(cells, effect),

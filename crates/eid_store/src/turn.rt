@@ -19,7 +19,8 @@ pub fn turn<E: Eeprom>(cells: &mut E, slot: Slot, next: &NewRecord<'_>) -> Resul
     ensures cut { OnErr result (WasTurning slot next.now (E.cells cells.old) (E.cells cells.new)) }
     ensures same { SameSlot slot (E.cells cells.old) (E.cells cells.new) }
     ensures layout { slice_index (E.cells cells.new) 0 ≡ slice_index (E.cells cells.old) 0 }
-    ensures cost { Costs (turn_cost slot next.now.size (E.cells cells.old)) (E.device cells.old) (E.device cells.new) result }
+    ensures cost { Costs (turn_cost slot next.now.size (E.cells cells.old))
+        (E.device cells.old) (E.device cells.new) result }
 {
     let other = slot.other();
     close_gate(cells, other)?;

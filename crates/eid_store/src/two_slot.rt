@@ -67,7 +67,8 @@ fn greater(a: u32, b: u32) -> Option<Slot>
 /// The store that the cells hold, if they stand for a record; nothing is written.
 fn mounted<E: Eeprom>(cells: &E) -> Option<TwoSlot>
     requires { IsTrue (E.device cells.now).has_power }
-    ensures fits { IfSome result (λ store. TwoSlotFits store (E.device cells.now) (E.cells cells.now)) }
+    ensures fits { IfSome result (λ store. TwoSlotFits store
+        (E.device cells.now) (E.cells cells.now)) }
     ensures none { IfNone result (two_slot_stands (E.cells cells.now) ≡ None) }
 {
     if cell(cells, 0) != LAYOUT {
@@ -103,8 +104,10 @@ impl Durable for TwoSlot {
     fn mount<E: Eeprom>(cells: &mut E) -> Result<TwoSlot, MountError>
         requires power { IsTrue (E.device cells.old).has_power }
         ensures fits { IfOk result (λ store. TwoSlotFits store (E.device cells.new) (E.cells cells.new)) }
-        ensures bad_image { (result ≡ Err MountError.BadImage) ↔ (two_slot_stands (E.cells cells.old) ≡ None) }
-        ensures untouched { result ≡ Err MountError.BadImage → E.cells cells.new ≡ E.cells cells.old }
+        ensures bad_image { (result ≡ Err MountError.BadImage)
+            ↔ (two_slot_stands (E.cells cells.old) ≡ None) }
+        ensures untouched { result ≡ Err MountError.BadImage
+            → E.cells cells.new ≡ E.cells cells.old }
         ensures same { two_slot_stands (E.cells cells.new) ≡ two_slot_stands (E.cells cells.old) }
         ensures layout { slice_index (E.cells cells.new) 0 ≡ slice_index (E.cells cells.old) 0 }
         ensures cost { Mounts 0 (E.device cells.old) (E.device cells.new) result }

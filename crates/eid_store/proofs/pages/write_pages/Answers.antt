@@ -52,9 +52,10 @@ loop-index-preserved g c =
     let room : room_of source cells ≡ room_of source first = room_apart source first cells so_far in
     let page : c.page-page.result ≡ page_of i (all_pages source next first) = c.page-page.ensures ∙ ap (λ (r : List ℕ). page_of i (filled (page_count next.size) (next_bytes next r))) room in
     let place : c.record.result ≡ record_of (other_of source) = c.record.ensures ∙ ap record_of c.other-target.ensures in
+    let there : g.E.Eeprom.cells c.write.new.self ≡ patched (record_of (other_of source) + 64 * i) c.page-page.result cells =
+    c.in_ok-write.ensures.written ∙ ap (λ (p : ℕ). patched (p + 64 * i) c.page-page.result cells) place in
     record {
-      written = c.in_ok-write.ensures.written ∙ ap (λ (p : ℕ). patched (p + 64 * i) c.page-page.result cells) place
-          ∙ one_more (other_of source) (all_pages source next first) first cells c.page-page.result (page_count next.size) i long whole.0 whole.1 c.loop-index-test.true page c.loop-index.invariant.written;
+      written = there ∙ one_more (other_of source) (all_pages source next first) first cells c.page-page.result (page_count next.size) i long whole.0 whole.1 c.loop-index-test.true page c.loop-index.invariant.written;
       steady = steady_more i (g.E.Eeprom.device c.args.cells.now) (g.E.Eeprom.device c.loop-index.cells) (g.E.Eeprom.device c.write.new.self) c.loop-index.invariant.steady c.in_ok-write.ensures.steady;
       spared = spared_more i (g.E.Eeprom.device c.args.cells.now) (g.E.Eeprom.device c.loop-index.cells) c.loop-index.invariant.steady c.loop-index.invariant.spared (λ told one. (c.in_ok-write.ensures.as_planned told).1 one);
     }

@@ -1,0 +1,7 @@
+-- The words of the code as a command.
+use Rattle.eid.specs.declared.words.Words.{Words}
+use Rattle.eid.specs.declared.words.Words.TheVariants as variants
+use Rattle.eid.specs.Commands.{Command, Run}
+
+abbrev pub command : Words → Command
+command (variants.Run image script start) = Run image.now script.now start

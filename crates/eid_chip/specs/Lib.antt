@@ -1,0 +1,3 @@
+pub mod ChipView
+pub mod Fits
+pub mod Steps

@@ -1,0 +1,55 @@
+//! The refusals, each with its rule and its status.
+use eid_base::{Rule, Status};
+
+/// The rule that a command failed, and the status that says so.
+#[derive(Clone, Copy, Debug, PartialEq, Eq)]
+pub struct Refusal {
+    pub rule: Rule,
+    pub status: Status,
+}
+
+/// The bytes are no command, or its body is too long.
+pub const NO_COMMAND: Refusal = Refusal {
+    rule: Rule(1),
+    status: Status(0x6700),
+};
+/// No kind has this class.
+pub const CLASS: Refusal = Refusal {
+    rule: Rule(4),
+    status: Status(0x6E00),
+};
+/// No kind has this class and instruction.
+pub const INSTRUCTION: Refusal = Refusal {
+    rule: Rule(5),
+    status: Status(0x6D00),
+};
+/// No kind has this class and instruction with these parameters.
+pub const PARAMETERS: Refusal = Refusal {
+    rule: Rule(6),
+    status: Status(0x6A86),
+};
+/// The body has not the form of the kind.
+pub const BODY_FORM: Refusal = Refusal {
+    rule: Rule(10),
+    status: Status(0x6A80),
+};
+/// There is no current file.
+pub const NO_CURRENT_FILE: Refusal = Refusal {
+    rule: Rule(12),
+    status: Status(0x6986),
+};
+/// The identifier names neither the application nor a file.
+pub const NOT_NAMED: Refusal = Refusal {
+    rule: Rule(13),
+    status: Status(0x6A82),
+};
+/// The session has no PACE.
+pub const NO_PACE: Refusal = Refusal {
+    rule: Rule(20),
+    status: Status(0x6982),
+};
+/// The offset is behind the end of the file.
+pub const OFFSET: Refusal = Refusal {
+    rule: Rule(38),
+    status: Status(0x6B00),
+};

@@ -1,0 +1,130 @@
+//! SELECT and READ BINARY (ISO/IEC 7816-4).
+ghost use Rattle.std.specs.Prelude.{◌≡◌, ◌≤◌, ◌-◌, length, true, false, option_map, if◌then◌else◌};
+ghost use Rattle.eid_apdu.specs.Command.{plain_command};
+ghost use Rattle.eid_model.specs.Moments.{OpeningRecord};
+ghost use Rattle.eid_model.specs.Kinds.{is_by_short, file_of_short};
+ghost use Rattle.eid_model.specs.Rules.{file_meant, offset_meant};
+ghost use Rattle.eid_chip.specs.Steps.{Told, state, known};
+
+use crate::files::{self, file_of_id, read_answer};
+use crate::reaction::{Reaction, carried_out, refused};
+use crate::refusal::{BODY_FORM, NO_CURRENT_FILE, NO_PACE, NOT_NAMED, OFFSET};
+use crate::session::{CARD_ACCESS, FileNo, Session};
+use eid_apdu::Command;
+use eid_base::Rule;
+use eid_model::Kind;
+
+/// The identifier of the eID application (BSI TR-03110-4).
+const APPLICATION_ID: [u8; 9] = [0xe8, 0x07, 0x04, 0x00, 0x7f, 0x00, 0x07, 0x03, 0x02];
+
+/// SELECT of the application.
+pub fn select_application(session: Session, c: &Command<'_>) -> Reaction
+    ensures { (kept : OpeningRecord) → Told Kind.SelectApplication kept (state session) (plain_command c.now) result }
+{
+    if c.body.is_empty() || c.body.len() > 16 {
+        return refused(BODY_FORM, session);
+    }
+    if c.body != APPLICATION_ID.as_slice() {
+        return refused(NOT_NAMED, session);
+    }
+    carried_out(Session {
+        selected: true,
+        current: None,
+    })
+}
+
+/// SELECT of the master file.
+pub fn select_master_file(session: Session, c: &Command<'_>) -> Reaction
+    ensures { (kept : OpeningRecord) → Told Kind.SelectMasterFile kept (state session) (plain_command c.now) result }
+{
+    if !c.body.is_empty() && c.body != [0x3f, 0x00].as_slice() {
+        return refused(BODY_FORM, session);
+    }
+    carried_out(Session {
+        selected: false,
+        current: None,
+    })
+}
+
+/// SELECT of a file. It never tells whether the file is there.
+pub fn select_file(session: Session, c: &Command<'_>) -> Reaction
+    ensures { (kept : OpeningRecord) → Told Kind.SelectFile kept (state session) (plain_command c.now) result }
+{
+    let [high, low] = c.body else {
+        return refused(BODY_FORM, session);
+    };
+    let Some(file) = file_of_id(u16::from(*high) * 256 + u16::from(*low)) else {
+        return refused(NOT_NAMED, session);
+    };
+    carried_out(Session {
+        selected: session.selected,
+        current: Some(file),
+    })
+}
+
+/// The file that READ BINARY means: of its short identifier, or the current one.
+#[tactic(auto, unfolding(eid_model::specs::Rules::file_meant))]
+fn meant_file(session: &Session, c: &Command<'_>) -> Option<FileNo>
+    ensures file { (kept : OpeningRecord) → file_meant (known Kind.ReadBinary kept (state session.now) (plain_command c.now)) ≡ option_map (λ file. file.0) result }
+    ensures current { is_by_short (plain_command c.now) ≡ false → result ≡ session.now.current }
+    ensures named { is_by_short (plain_command c.now) ≡ true → file_of_short (c.now.p1 - 0x80) ≡ option_map (λ file. file.0) result }
+{
+    if c.p1 < 0x80 {
+        session.current
+    } else {
+        files::file_of_short(c.p1 - 0x80)
+    }
+}
+
+/// The offset that READ BINARY begins at: P2 behind a short identifier, else P1 and P2.
+fn meant_offset(c: &Command<'_>) -> usize
+    ensures { result ≡ offset_meant (plain_command c.now) }
+{
+    if c.p1 < 0x80 {
+        usize::from(c.p1) * 256 + usize::from(c.p2)
+    } else {
+        usize::from(c.p2)
+    }
+}
+
+/// The session after a READ BINARY of a file: a short identifier names it.
+fn after_read(session: Session, c: &Command<'_>, file: FileNo) -> Session
+    ensures selected { result.selected ≡ session.selected }
+    ensures current { result.current ≡ (if is_by_short (plain_command c.now) then Some file else session.current) }
+{
+    if c.p1 < 0x80 {
+        return session;
+    }
+    Session {
+        selected: session.selected,
+        current: Some(file),
+    }
+}
+
+/// READ BINARY. No file but EF.CardAccess is readable without PACE.
+pub fn read_binary(session: Session, access: &[u8], c: &Command<'_>) -> Reaction
+    requires { length access.now ≤ 2048 }
+    ensures { (kept : OpeningRecord) → kept.card_access ≡ access.now → Told Kind.ReadBinary kept (state session) (plain_command c.now) result }
+{
+    if !c.body.is_empty() {
+        return refused(BODY_FORM, session);
+    }
+    if c.p1 < 0x80 && session.current.is_none() {
+        return refused(NO_CURRENT_FILE, session);
+    }
+    let Some(file) = meant_file(&session, c) else {
+        return refused(NOT_NAMED, session);
+    };
+    if file != CARD_ACCESS {
+        return refused(NO_PACE, session);
+    }
+    let offset = meant_offset(c);
+    if offset > access.len() {
+        return refused(OFFSET, session);
+    }
+    Reaction {
+        rule: Rule(0),
+        reply: read_answer(&access[offset..], c.ne),
+        session: after_read(session, c, file),
+    }
+}

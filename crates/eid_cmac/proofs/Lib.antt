@@ -1,0 +1,3 @@
+pub mod PaddingFacts
+pub mod SumFacts
+pub mod ChainFacts

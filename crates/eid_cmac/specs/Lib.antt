@@ -1,0 +1,4 @@
+pub mod Padding
+pub mod Cmac
+pub mod Absorbing
+pub mod Derivation

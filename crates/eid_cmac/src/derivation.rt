@@ -1,0 +1,19 @@
+ghost use Rattle.std.specs.Prelude.{◌≡◌, List};
+ghost use Rattle.eid_cmac.specs.Derivation.{derived};
+
+use sha1::Sha1;
+
+/// The key of 16 bytes that a shared secret and a nonce, which may be empty, give under a number:
+/// 1 for encryption, 2 for the code, 3 for a password (BSI TR-03110-3).
+pub fn derive(secret: &[u8], nonce: &[u8], which: u32) -> [u8; 16]
+    ensures { result ≡ derived secret.now nonce.now which }
+{
+    let mut hasher = Sha1::new();
+    hasher.update(secret);
+    hasher.update(nonce);
+    hasher.update(&which.to_be_bytes());
+    let digest = hasher.finalize();
+    let mut key = [0; 16];
+    key.copy_from_slice(&digest[..16]);
+    key
+}

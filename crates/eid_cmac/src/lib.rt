@@ -1,0 +1,13 @@
+//! AES-CMAC (RFC 4493), the padding of secure messaging (ISO/IEC 7816-4), and the derivation of
+//! keys (BSI TR-03110-3).
+#![tactic(auto)]
+
+mod derivation;
+mod mac;
+mod padding;
+#[cfg(test)]
+mod tests;
+
+pub use derivation::derive;
+pub use mac::cmac;
+pub use padding::{pad, unpad};

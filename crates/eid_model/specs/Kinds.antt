@@ -1,0 +1,86 @@
+-- The command kinds: class, instruction and parameters of each (ISO/IEC 7816-4, BSI TR-03110-3), and
+-- the files that commands name (BSI TR-03110-4).
+use Rattle.std.specs.Prelude.{ℕ, ◌+◌, ◌*◌, ◌-◌, Bool, true, ◌==◌, ◌&&◌, ◌||◌, nat_lt, nat_le, List, [], ◌∷◌, Option, Some, None, option_map, if◌then◌else◌, find}
+use Rattle.std.specs.List.{list_any}
+use Rattle.eid_apdu.specs.Command.{PlainCommand}
+use Rattle.eid_model.specs.declared.kind.Kind.{Kind}
+use Rattle.eid_model.specs.declared.kind.Kind.TheVariants.{SelectApplication, SelectMasterFile, SelectFile, ReadBinary}
+
+-- the kinds by number, in the order of the table
+abbrev pub number_of : Kind → ℕ
+number_of SelectApplication = 0
+number_of SelectMasterFile = 1
+number_of SelectFile = 2
+number_of ReadBinary = 3
+
+abbrev pub same_kind : Kind → Kind → Bool
+same_kind a b = number_of a == number_of b
+
+-- P1 and P2 as one number
+abbrev pub p1p2 : PlainCommand → ℕ
+p1p2 c = 256 * c.p1 + c.p2
+
+-- READ BINARY by short identifier has 80 to 9F as P1, and the offset as P2; by offset alone P1 is below 80
+abbrev pub is_by_short : PlainCommand → Bool
+is_by_short c = nat_le 0x80 c.p1
+
+-- A row of the table: the kind, its classes, its instruction, a test of P1 and P2, and when in a run,
+-- by the run's next step, a command is of this kind.
+pub record KindRow : Type 0 where
+  pub kind : Kind
+  pub classes : List ℕ
+  pub instruction : ℕ
+  pub parameters : ℕ → Bool
+  pub comes : Option Kind → Bool
+
+abbrev pub always : Option Kind → Bool
+always next = true
+
+abbrev pub kinds : List KindRow
+kinds =
+    record { kind = SelectApplication; classes = 0x00 ∷ []; instruction = 0xA4; parameters = λ p. p == 0x040C; comes = always } ∷
+    record { kind = SelectMasterFile; classes = 0x00 ∷ []; instruction = 0xA4; parameters = λ p. p == 0x000C; comes = always } ∷
+    record { kind = SelectFile; classes = 0x00 ∷ []; instruction = 0xA4; parameters = λ p. p == 0x020C; comes = always } ∷
+    record { kind = ReadBinary; classes = 0x00 ∷ []; instruction = 0xB0; parameters = λ p. nat_lt p 0xA000; comes = always } ∷ []
+
+-- the row has the command's class and instruction
+abbrev pub has_instruction : PlainCommand → KindRow → Bool
+has_instruction c row = list_any (λ class. class == c.cla) row.classes && row.instruction == c.ins
+
+-- and its parameters too
+abbrev pub has_parameters : PlainCommand → KindRow → Bool
+has_parameters c row = has_instruction c row && row.parameters (p1p2 c)
+
+-- the kind of a command, where this step comes next in the run
+abbrev pub kind_named : Option Kind → PlainCommand → Option Kind
+kind_named next c = option_map (λ row. row.kind) (find (λ row. has_parameters c row && row.comes next) kinds)
+
+-- Files by number: EF.CardAccess is 0, EF.CardSecurity is 1, data group n is n + 1.
+abbrev pub card_access : ℕ
+card_access = 0
+
+abbrev pub card_security : ℕ
+card_security = 1
+
+abbrev pub data_group : ℕ → ℕ
+data_group n = n + 1
+
+-- the file of a short identifier: 1C, 1D, and n for data group n from 1 to 21
+abbrev pub file_of_short : ℕ → Option ℕ
+file_of_short short =
+    if short == 0x1C then Some card_access
+    else if short == 0x1D then Some card_security
+    else if nat_le 1 short && nat_le short 21 then Some (data_group short)
+    else None
+
+-- the file of an identifier: 011C, 011D, and 0100 + n for data group n from 1 to 21
+abbrev pub file_of_id : ℕ → Option ℕ
+file_of_id id =
+    if id == 0x011C then Some card_access
+    else if id == 0x011D then Some card_security
+    else if nat_le 0x0101 id && nat_le id 0x0115 then Some (data_group (id - 0x0100))
+    else None
+
+-- the identifier of the eID application
+abbrev pub application_id : List ℕ
+application_id = 0xE8 ∷ 0x07 ∷ 0x04 ∷ 0x00 ∷ 0x7F ∷ 0x00 ∷ 0x07 ∷ 0x03 ∷ 0x02 ∷ []

@@ -1,0 +1,12 @@
+//! The definitions of the chip: moments and journals, sessions, rules, answers, legality and the trace.
+#![tactic(auto)]
+
+mod kind;
+mod law;
+mod moment;
+mod text;
+
+pub use kind::Kind;
+pub use law::law_one_journal;
+pub use moment::{Input, MAX_BODY, Moment, Plain};
+pub use text::trace_text;

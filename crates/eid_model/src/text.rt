@@ -1,0 +1,193 @@
+//! Writing the text of a moment.
+ghost use Rattle.std.specs.Prelude.{◌≡◌, ◌++◌, OnOk, IfOk, codes, decimal, option_map};
+ghost use Rattle.hex.specs.Hex.{encode_lower};
+ghost use Rattle.eid_apdu.specs.Answer.{plain_reply, status_bytes, spelled};
+ghost use Rattle.eid_model.specs.Trace.{line, header_text, body_text, plain_text, bytes_text, answer_text, found_text, handled_text, command_lines, text};
+ghost use Rattle.eid_model.specs.View as view;
+
+use crate::moment::{Input, Moment, Plain};
+use eid_apdu::Reply;
+use eid_base::{NoMemory, Status};
+use std::alloc::Global;
+
+/// A text that grows.
+#[derive(Drop)]
+struct Text {
+    alloc: Global,
+    bytes: Vec<u8>,
+}
+
+impl Text {
+    /// Appends bytes as they are.
+    fn put(&mut self, bytes: &[u8]) -> Result<(), NoMemory>
+        ensures { OnOk result (self.new.bytes.items ≡ self.old.bytes.items ++ bytes.now) }
+    {
+        self.bytes.extend_from_slice(bytes)?;
+        Ok(())
+    }
+
+    /// Appends bytes in hexadecimal.
+    fn put_hex(&mut self, bytes: &[u8]) -> Result<(), NoMemory>
+        ensures { OnOk result (self.new.bytes.items ≡ self.old.bytes.items ++ encode_lower bytes.now) }
+    {
+        let digits = hex::encode(self.alloc, bytes)?;
+        self.put(digits.as_bytes())
+    }
+
+    /// Appends a number in decimal.
+    fn put_decimal(&mut self, number: u32) -> Result<(), NoMemory>
+        ensures { OnOk result (self.new.bytes.items ≡ self.old.bytes.items ++ decimal number) }
+    {
+        let digits = number.to_string(self.alloc)?;
+        self.put(digits.as_bytes())
+    }
+
+    /// Appends a line: its label, and bytes in hexadecimal or `none`.
+    fn put_bytes_line(&mut self, label: &[u8], bytes: Option<&[u8]>) -> Result<(), NoMemory>
+        ensures { OnOk result (self.new.bytes.items ≡ self.old.bytes.items ++ line label.now (bytes_text (option_map (λ b. b.now) bytes.entry))) }
+    {
+        self.put(label)?;
+        match bytes {
+            None => self.put(b"none")?,
+            Some(bytes) => self.put_hex(bytes)?,
+        }
+        self.put(b"\n")
+    }
+
+    /// Appends a line: its label, and a number.
+    fn put_number_line(&mut self, label: &[u8], number: u32) -> Result<(), NoMemory>
+        ensures { OnOk result (self.new.bytes.items ≡ self.old.bytes.items ++ line label.now (decimal number)) }
+    {
+        self.put(label)?;
+        self.put_decimal(number)?;
+        self.put(b"\n")
+    }
+
+    /// Appends a header in hexadecimal: class, instruction and parameters.
+    fn put_header(&mut self, c: &Plain) -> Result<(), NoMemory>
+        ensures { OnOk result (self.new.bytes.items ≡ self.old.bytes.items ++ header_text (view.plain c.now)) }
+    {
+        self.put_hex(&[c.cla])?;
+        self.put(b" ")?;
+        self.put_hex(&[c.ins])?;
+        self.put(b" ")?;
+        self.put_hex(&[c.p1, c.p2])
+    }
+
+    /// Appends a body in hexadecimal, or a dash.
+    fn put_body(&mut self, body: &[u8]) -> Result<(), NoMemory>
+        ensures { OnOk result (self.new.bytes.items ≡ self.old.bytes.items ++ body_text body.now) }
+    {
+        if body.is_empty() {
+            self.put(b"-")
+        } else {
+            self.put_hex(body)
+        }
+    }
+
+    /// Appends a plain command, or `none`.
+    fn put_plain(&mut self, plain: &Option<Plain>) -> Result<(), NoMemory>
+        ensures { OnOk result (self.new.bytes.items ≡ self.old.bytes.items ++ plain_text (option_map view.plain plain.now)) }
+    {
+        let Some(c) = plain else {
+            return self.put(b"none");
+        };
+        self.put_header(c)?;
+        self.put(b" ")?;
+        self.put_body(c.body.as_slice())?;
+        self.put(b" ")?;
+        self.put_decimal(c.ne)
+    }
+
+    /// Appends the line of the plain command.
+    fn put_plain_line(&mut self, plain: &Option<Plain>) -> Result<(), NoMemory>
+        ensures { OnOk result (self.new.bytes.items ≡ self.old.bytes.items ++ line (codes " plain ") (plain_text (option_map view.plain plain.now))) }
+    {
+        self.put(b" plain ")?;
+        self.put_plain(plain)?;
+        self.put(b"\n")
+    }
+
+    /// Appends the line of the answer: its data and status, or `none`.
+    fn put_answer_line(&mut self, answer: &Option<Reply>) -> Result<(), NoMemory>
+        ensures { OnOk result (self.new.bytes.items ≡ self.old.bytes.items ++ line (codes " answer ") (answer_text (option_map plain_reply answer.now))) }
+    {
+        self.put(b" answer ")?;
+        match answer {
+            None => self.put(b"none")?,
+            Some(reply) => self.put_reply(reply)?,
+        }
+        self.put(b"\n")
+    }
+
+    /// Appends a reply in hexadecimal.
+    #[tactic(auto, using(crate::proofs::Hexadecimal::encode_parts))]
+    fn put_reply(&mut self, reply: &Reply) -> Result<(), NoMemory>
+        ensures { OnOk result (self.new.bytes.items ≡ self.old.bytes.items ++ encode_lower (spelled (plain_reply reply.now))) }
+    {
+        self.put_hex(reply.content.as_slice())?;
+        self.put_status(reply.status)
+    }
+
+    /// Appends a status in hexadecimal, SW1 first.
+    fn put_status(&mut self, status: Status) -> Result<(), NoMemory>
+        ensures { OnOk result (self.new.bytes.items ≡ self.old.bytes.items ++ encode_lower (status_bytes status.0)) }
+    {
+        self.put_hex(&status.0.to_be_bytes())
+    }
+
+    /// Appends what the moment of a command says behind its bytes.
+    fn put_handled(&mut self, m: &Moment) -> Result<(), NoMemory>
+        ensures { OnOk result (self.new.bytes.items ≡ self.old.bytes.items ++ handled_text (view.moment m.now)) }
+    {
+        self.put_plain_line(&m.plain)?;
+        self.put_number_line(b" finished ", u32::from(m.finished))?;
+        self.put_number_line(b" rule ", u32::from(m.rule.0))?;
+        self.put_answer_line(&m.answer)?;
+        self.put_bytes_line(b" sent ", m.sent.as_ref().map(|sent| sent.as_slice()))
+    }
+
+    /// Appends the line of a power-on.
+    fn put_on(&mut self, found: Option<u32>) -> Result<(), NoMemory>
+        ensures { OnOk result (self.new.bytes.items ≡ self.old.bytes.items ++ line (codes "on ") (found_text found)) }
+    {
+        match found {
+            None => self.put(b"on lost\n"),
+            Some(number) => self.put_number_line(b"on ", number),
+        }
+    }
+
+    /// Appends the text of a command's moment.
+    fn put_command(&mut self, bytes: &[u8], m: &Moment) -> Result<(), NoMemory>
+        ensures { OnOk result (self.new.bytes.items ≡ self.old.bytes.items ++ command_lines bytes.now (view.moment m.now)) }
+    {
+        self.put_bytes_line(b"apdu ", Some(bytes))?;
+        self.put_handled(m)
+    }
+
+    /// Appends the text of a moment.
+    fn put_moment(&mut self, m: &Moment) -> Result<(), NoMemory>
+        ensures { OnOk result (self.new.bytes.items ≡ self.old.bytes.items ++ text (view.moment m.now)) }
+    {
+        match &m.input {
+            Input::On { found } => self.put_on(*found),
+            Input::Off => self.put(b"off\n"),
+            Input::Apdu(bytes) => self.put_command(bytes.as_slice(), m),
+        }
+    }
+}
+
+/// The text of a moment, as a trace has it.
+///
+/// # Errors
+/// `NoMemory` where memory for the text is refused.
+pub fn trace_text(alloc: Global, m: &Moment) -> Result<Vec<u8>, NoMemory>
+    ensures { IfOk result (λ written. written.items ≡ text (view.moment m.now)) }
+{
+    let mut out = Text {
+        alloc,
+        bytes: Vec::new(alloc),
+    };
+    out.put_moment(m)?;
+    Ok(out.bytes)
+}
