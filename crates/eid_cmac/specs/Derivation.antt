@@ -1,4 +1,4 @@
--- Key derivation for AES-128 (BSI TR-03110-3, A.2.3.2): SHA-1 of the secret, the nonce and the counter.
+-- Key derivation for AES-128 (BSI TR-03110-3): SHA-1 of the secret, the nonce and the counter.
 use Rattle.std.specs.Prelude.{ℕ, List, ◌++◌, take}
 use Rattle.std.specs.Int.{w32, to_be_bytes}
 use Rattle.sha1.specs.Sha1.{sha1}
