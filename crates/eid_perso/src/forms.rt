@@ -1,0 +1,181 @@
+//! The forms of values.
+ghost use Rattle.std.specs.Prelude.{◌≡◌, ◌-◌, map, nat_le, IfOk, option_map};
+ghost use Rattle.std.specs.List.{list_all};
+ghost use Rattle.eid_bits.specs.Dates.{date_digits};
+ghost use Rattle.eid_bits.specs.Template.{template_bytes};
+ghost use Rattle.eid_record.specs.Reading.{is_ascii_digit};
+ghost use Rattle.toml.specs.View.{view};
+ghost use Rattle.eid_perso.specs.Forms.{number_between, whole, digits_in, digits, date_in, date, is_name, name_in, name, sized, point, file_in, file};
+
+use arrayvec::ArrayVec;
+use eid_base::{NoMemory, Point};
+use eid_bits::{Date6, Template};
+use hex::{FromHex, FromHexError};
+use std::alloc::Global;
+use toml::Value;
+
+fn number_between(least: u32, most: u32, n: i64) -> Option<u32>
+    ensures { result ≡ number_between least most n }
+{
+    if n < i64::from(least) || n > i64::from(most) {
+        return None;
+    }
+    Some(n.unsigned_abs() as u32)
+}
+
+/// A whole number from `least` to `most`.
+pub fn whole(value: &Value, least: u32, most: u32) -> Option<u32>
+    ensures { result ≡ whole least most (view value.now) }
+{
+    match value.as_integer() {
+        Some(n) => number_between(least, most, n),
+        None => None,
+    }
+}
+
+fn are_digits(text: &[u8]) -> bool
+    ensures { result ≡ list_all is_ascii_digit text.now }
+{
+    text.iter().all(|byte| matches!(*byte, b'0'..=b'9'))
+}
+
+fn digits_in<const N: usize>(text: &[u8]) -> Option<[u8; N]>
+    ensures { result ≡ digits_in N text.now }
+{
+    let Ok(bytes) = <[u8; N]>::try_from(text) else {
+        return None;
+    };
+    if !are_digits(&bytes) {
+        return None;
+    }
+    Some(bytes)
+}
+
+/// A text of N decimal digits.
+pub fn digits<const N: usize>(value: &Value) -> Option<[u8; N]>
+    ensures { result ≡ digits N (view value.now) }
+{
+    match value.as_str() {
+        Some(text) => digits_in::<N>(text.as_bytes()),
+        None => None,
+    }
+}
+
+/// The values of six digits.
+fn values(text: &[u8; 6]) -> [u8; 6]
+    ensures { result ≡ map (λ d. d - 48) text.now }
+{
+    let [y1, y2, m1, m2, d1, d2] = *text;
+    [
+        y1.saturating_sub(b'0'),
+        y2.saturating_sub(b'0'),
+        m1.saturating_sub(b'0'),
+        m2.saturating_sub(b'0'),
+        d1.saturating_sub(b'0'),
+        d2.saturating_sub(b'0'),
+    ]
+}
+
+fn date_in(text: &[u8; 6]) -> Option<Date6>
+    ensures { option_map date_digits result ≡ date_in text.now }
+{
+    match Date6::from_bytes(&values(text)) {
+        Ok(date) => Some(date),
+        Err(_) => None,
+    }
+}
+
+/// A text of six decimal digits that are a date.
+pub fn date(value: &Value) -> Option<Date6>
+    ensures { option_map date_digits result ≡ date (view value.now) }
+{
+    match digits::<6>(value) {
+        Some(text) => date_in(&text),
+        None => None,
+    }
+}
+
+fn is_ascii(text: &[u8]) -> bool
+    ensures { result ≡ list_all (λ b. nat_le b 127) text.now }
+{
+    text.iter().all(|byte| *byte <= 127)
+}
+
+fn is_name(text: &[u8]) -> bool
+    ensures { result ≡ is_name text.now }
+{
+    matches!(text.len(), 1..=16) && is_ascii(text)
+}
+
+fn name_in(text: &[u8]) -> Option<ArrayVec<u8, 16>>
+    ensures { option_map (λ n. n.items) result ≡ name_in text.now }
+{
+    if !is_name(text) {
+        return None;
+    }
+    let mut name = ArrayVec::new();
+    let _ = name.try_extend_from_slice(text);
+    Some(name)
+}
+
+/// ASCII text of 1 to 16 characters.
+pub fn name(value: &Value) -> Option<ArrayVec<u8, 16>>
+    ensures { option_map (λ n. n.items) result ≡ name (view value.now) }
+{
+    match value.as_str() {
+        Some(text) => name_in(text.as_bytes()),
+        None => None,
+    }
+}
+
+/// N bytes in hexadecimal.
+pub fn sized<const N: usize>(value: &Value) -> Option<[u8; N]>
+    ensures { result ≡ sized N (view value.now) }
+{
+    match value.as_str() {
+        Some(text) => <[u8; N]>::from_hex(text).ok(),
+        None => None,
+    }
+}
+
+/// Five bytes in hexadecimal.
+pub fn template(value: &Value) -> Option<Template>
+    ensures { option_map template_bytes result ≡ sized 5 (view value.now) }
+{
+    match sized::<5>(value) {
+        Some(bytes) => Template::from_bytes(&bytes).ok(),
+        None => None,
+    }
+}
+
+/// 65 bytes in hexadecimal that begin with 04.
+pub fn point(value: &Value) -> Option<Point>
+    ensures { result ≡ point (view value.now) }
+{
+    match sized::<65>(value) {
+        Some(bytes) if bytes[0] == 4 => Some(bytes),
+        _ => None,
+    }
+}
+
+/// The bytes of hexadecimal text, where they are at most 2,048.
+fn file_in(alloc: Global, text: &str) -> Result<Option<Vec<u8>>, NoMemory>
+    ensures { IfOk result (λ bytes. option_map (λ v. v.items) bytes ≡ file_in text.now) }
+{
+    match hex::decode(alloc, text) {
+        Ok(bytes) if bytes.len() <= 2048 => Ok(Some(bytes)),
+        Ok(_) => Ok(None),
+        Err(FromHexError::OutOfMemory) => Err(NoMemory),
+        Err(_) => Ok(None),
+    }
+}
+
+/// At most 2,048 bytes in hexadecimal.
+pub fn file(alloc: Global, value: &Value) -> Result<Option<Vec<u8>>, NoMemory>
+    ensures { IfOk result (λ bytes. option_map (λ v. v.items) bytes ≡ file (view value.now)) }
+{
+    match value.as_str() {
+        Some(text) => file_in(alloc, text),
+        None => Ok(None),
+    }
+}

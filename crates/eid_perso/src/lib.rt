@@ -1,0 +1,19 @@
+//! Personalisation: configurations in TOML, the images that they give, and the text that shows a record.
+#![tactic(auto)]
+
+mod config;
+mod files;
+mod forms;
+mod image;
+mod keys;
+mod names;
+mod reading;
+mod show;
+
+pub use config::{Config, ConfigError};
+pub use image::image_of;
+pub use reading::read_config;
+pub use show::show_text;
+
+#[cfg(test)]
+mod tests;

@@ -1,0 +1,77 @@
+//! Reading a configuration.
+ghost use Rattle.std.specs.Prelude.{◌≡◌, Ok, IfOk, IfErr};
+ghost use Rattle.toml.specs.View.{table_view};
+ghost use Rattle.eid_perso.specs.Config.{IsWhole, config_view};
+ghost use Rattle.eid_perso.specs.Keys.{config_in};
+ghost use Rattle.eid_perso.specs.Reading.{Reads, IsReadAs, IsAnswerErr};
+
+use crate::config::{Config, ConfigError};
+use crate::files::read_files;
+use crate::keys::{counters, current, date, passwords, previous, secrets, start};
+use eid_record::Record;
+use std::alloc::Global;
+use toml::Table;
+
+/// The most bytes that a text may have.
+const MOST: usize = 1_048_576;
+
+/// The configuration of a table.
+#[tactic(auto, unfolding(crate::specs::Keys::config_in))]
+fn config_of(alloc: Global, table: &Table) -> Result<Config, ConfigError>
+    ensures reads { Reads config_view result (config_in (table_view table.now)) }
+    ensures whole { IfOk result (λ c. IsWhole (config_view c)) }
+{
+    let (layout, number) = start(table)?;
+    let (pin, can, puk) = passwords(table)?;
+    let (tries, unblocks, active) = counters(table)?;
+    let date = date(table, 9, "date")?;
+    let current = current(table)?;
+    let previous = previous(table)?;
+    let (ca_secret, ri_secret) = secrets(table)?;
+    let files = read_files(alloc, table)?;
+    let lengths = files.lengths;
+    let kept = Record {
+        number,
+        tries: tries as u8,
+        unblocks: unblocks as u8,
+        active,
+        pin,
+        can,
+        puk,
+        date,
+        current,
+        previous,
+        ca_secret,
+        ri_secret,
+        lengths,
+    };
+    Ok(Config {
+        layout: layout as u8,
+        kept,
+        files: files.bytes,
+    })
+}
+
+/// The configuration that a TOML text writes in one flat table; keys that no configuration has are passed over.
+/// Hexadecimal is read in both cases. The keys and their forms are this project's own.
+///
+/// # Errors
+/// `Bad` exactly where a key is absent though required, or refused, with the number of the first one, or 0 where the
+/// text is no TOML or has over 1,048,576 bytes. `NoMemory` where memory is refused.
+pub fn read_config(alloc: Global, text: &[u8]) -> Result<Config, ConfigError>
+    ensures read { IfOk result (λ c. IsReadAs text.now (Ok (config_view c))) }
+    ensures refused { IfErr result (IsAnswerErr text.now) }
+    ensures whole { IfOk result (λ c. IsWhole (config_view c)) }
+{
+    if text.len() > MOST {
+        return Err(ConfigError::Bad { key: 0 });
+    }
+    let Ok(document) = std::str::from_utf8(text) else {
+        return Err(ConfigError::Bad { key: 0 });
+    };
+    match toml::table_from_str(alloc, document) {
+        Ok(table) => config_of(alloc, &table),
+        Err(error) if error.is_memory() => Err(ConfigError::NoMemory),
+        Err(_) => Err(ConfigError::Bad { key: 0 }),
+    }
+}

@@ -1,0 +1,123 @@
+-- Scripts: one line for each thing that comes, and for each power cut that is planned. This project's own.
+use Rattle.std.specs.Prelude.{◌≡◌, ℕ, ◌+◌, Bool, true, ◌==◌, ◌&&◌, nat_le, nat_lt, List, [], ◌∷◌, ◌++◌, length, take, drop, slice_index, Option, Some, None, if◌then◌else◌, Result, Ok, Err, codes, ⊤}
+use Rattle.std.specs.List.{slice_split, before_first, after_first, list_all}
+use Rattle.std.specs.Str.{bytes_eq}
+use Rattle.std.specs.Str.Parse.{digits_value}
+use Rattle.std.specs.Char.{is_ascii_digit}
+use Rattle.hex.specs.Hex.{decode_of, decode_sized}
+use Rattle.hex.specs.declared.error.FromHexError.{FromHexError}
+use Rattle.eid_cells.specs.declared.tear.Tear.{Tear}
+use Rattle.eid_cells.specs.declared.tear.Tear.TheVariants.{Old, New, Half, Fill}
+use Rattle.eid_script.specs.declared.script.Line.{Line}
+use Rattle.eid_script.specs.declared.script.Line.TheVariants.{On, Off, Apdu, Cut}
+use Rattle.eid_script.specs.declared.script.ScriptError.{ScriptError}
+use Rattle.eid_script.specs.declared.script.ScriptError.TheVariants.{Bad, NoMemory}
+
+-- a line as what it says
+pub data ScriptLine : Type 0 where
+  OnLine : ScriptLine
+  OffLine : ScriptLine
+  ApduLine : List ℕ → ScriptLine
+  CutLine : ℕ → Tear → ScriptLine
+
+-- the lines of the code as plain ones
+abbrev pub plain_line : Line → ScriptLine
+plain_line On = OnLine
+plain_line Off = OffLine
+plain_line (Apdu bytes) = ApduLine bytes.items
+plain_line (Cut write tear) = CutLine write tear
+
+-- the bytes of a command: 1 to 65,544 of them
+abbrev pub command_line : Result (List ℕ) FromHexError → Option (List ScriptLine)
+command_line (Err e) = None
+command_line (Ok bytes) = if nat_le 1 (length bytes) && nat_le (length bytes) 65544 then Some (ApduLine bytes ∷ []) else None
+
+-- what `fill XX` leaves, the byte in two hexadecimal digits
+abbrev pub filled : Result (List ℕ) FromHexError → Option Tear
+filled (Err e) = None
+filled (Ok bytes) = Some (Fill (slice_index bytes 0))
+
+-- what a cut leaves: `old`, `new`, `half`, or `fill XX`
+abbrev pub tear_of : List ℕ → Option Tear
+tear_of words =
+    if bytes_eq words (codes "old") then Some Old
+    else if bytes_eq words (codes "new") then Some New
+    else if bytes_eq words (codes "half") then Some Half
+    else if bytes_eq (take 5 words) (codes "fill ") then filled (decode_sized (drop 5 words) 1)
+    else None
+
+-- one to seven decimal digits, the first of which is not 0
+abbrev pub is_plain_number : List ℕ → Bool
+is_plain_number word = nat_le 1 (length word) && nat_le (length word) 7 && nat_lt 48 (slice_index word 0) && list_all is_ascii_digit word
+
+-- the number of a write: 1 to 1,000,000 in decimal, without leading zeros
+abbrev pub write_of : List ℕ → Option ℕ
+write_of word = if is_plain_number word && nat_le (digits_value 10 word) 1000000 then Some (digits_value 10 word) else None
+
+abbrev pub cut_at : Option ℕ → Option Tear → Option (List ScriptLine)
+cut_at None tear = None
+cut_at (Some write) None = None
+cut_at (Some write) (Some tear) = Some (CutLine write tear ∷ [])
+
+abbrev pub is_space : ℕ → Bool
+is_space c = c == 32
+
+-- the words behind `cut `: the number of the write, one space, and what the cut leaves
+abbrev pub cut_line : List ℕ → Option (List ScriptLine)
+cut_line words = cut_at (write_of (before_first is_space words)) (tear_of (after_first is_space words))
+
+-- an empty line and a comment say nothing
+abbrev pub is_skipped : List ℕ → Bool
+is_skipped [] = true
+is_skipped (c ∷ cs) = c == 35
+
+-- what one line says: nothing, one thing, or it is no line of a script
+abbrev pub says : List ℕ → Option (List ScriptLine)
+says line =
+    if is_skipped line then Some []
+    else if bytes_eq line (codes "on") then Some (OnLine ∷ [])
+    else if bytes_eq line (codes "off") then Some (OffLine ∷ [])
+    else if bytes_eq (take 5 line) (codes "apdu ") then command_line (decode_of (drop 5 line))
+    else if bytes_eq (take 4 line) (codes "cut ") then cut_line (drop 4 line)
+    else None
+
+-- what was said first, and then what is said later
+abbrev pub after : List ScriptLine → Result (List ScriptLine) ℕ → Result (List ScriptLine) ℕ
+after first (Ok later) = Ok (first ++ later)
+after first (Err line) = Err line
+
+-- what a line of this number says, and then what is said later
+abbrev pub joined : ℕ → Option (List ScriptLine) → Result (List ScriptLine) ℕ → Result (List ScriptLine) ℕ
+joined number None later = Err number
+joined number (Some first) later = after first later
+
+-- what lines say together, counted from this number, or the number of the first that is no line of a script
+abbrev pub all_say : ℕ → List (List ℕ) → Result (List ScriptLine) ℕ
+all_say number [] = Ok []
+all_say number (line ∷ lines) = joined number (says line) (all_say (number + 1) lines)
+
+-- the end of a line
+abbrev pub is_lf : ℕ → Bool
+is_lf c = c == 10
+
+-- what a text says: each of its lines ends with LF, the last one with or without it
+abbrev pub text_says : List ℕ → Result (List ScriptLine) ℕ
+text_says text = all_say 1 (slice_split is_lf text)
+
+-- the longest script
+abbrev pub script_limit : ℕ
+script_limit = 1048576
+
+-- what a script says, or the first line that is none, 0 where the text is too long
+abbrev pub script_of : List ℕ → Result (List ScriptLine) ℕ
+script_of text = if nat_le (length text) script_limit then text_says text else Err 0
+
+-- a refusal that names a line names that one
+abbrev pub NamesLine : ScriptError → Result (List ScriptLine) ℕ → Type 0
+NamesLine (Bad line) said = said ≡ Err line
+NamesLine NoMemory said = ⊤
+
+-- the lines behind an LF, where there is one
+abbrev pub rest_lines : Option (List ℕ) → List (List ℕ)
+rest_lines None = []
+rest_lines (Some text) = slice_split is_lf text
