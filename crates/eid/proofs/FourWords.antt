@@ -1,7 +1,6 @@
 -- Four words, and what they say.
-use Rattle.std.proofs.Common.{◌≡◌, ℕ, ◌<◌, ◌^◌, List, [], ◌∷◌, length, get_or, map, refl, sym, ap, ◌∙◌, arith}
-use Rattle.std.specs.Prelude.{String, string_bytes, decimal, codes}
-use Rattle.std.specs.declared.alloc.Global.{Global}
+use Rattle.std.proofs.Common.{◌≡◌, ℕ, ◌<◌, ◌^◌, List, [], ◌∷◌, length, get_or, refl, arith}
+use Rattle.std.specs.Prelude.{decimal, codes}
 use Rattle.eid.specs.Commands.{Command, Run, Says}
 
 -- a list of four items

@@ -1,5 +1,3 @@
 pub mod Ends
 pub mod FourWords
 pub mod Inputs
-pub mod Lines
-pub mod Running

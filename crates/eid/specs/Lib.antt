@@ -1,6 +1,4 @@
-pub mod Images
-pub mod Scripts
 pub mod Commands
-pub mod Runs
-pub mod Works
+pub mod Images
 pub mod Words
+pub mod Works

@@ -1,35 +1,39 @@
 -- What the program ends in, and what it did. This project's own.
-use Rattle.std.specs.Prelude.{◌≡◌, ℕ, ◌<◌, ◌≤◌, Bool, true, false, IsTrue, List, [], ◌∷◌, ◌++◌, length, Option, Some, None, Result, Ok, Err, ◌⊎◌, IsSomeAnd}
+use Rattle.std.specs.Prelude.{◌≡◌, ℕ, ◌<◌, ◌≤◌, Bool, IsTrue, List, length, slice_index, Option, Some, None, Result, Ok, Err, ◌⊎◌, IsSomeAnd}
 use Rattle.eid_base.specs.Faults.{Rose}
-use Rattle.eid_base.specs.Seen.{FolderSeen, SinkSeen, SameFiles, SameOthers, IsLeftBy, Grew}
-use Rattle.eid_model.specs.Moments.{PlainMoment, PlainLine, OpeningRecord, script, AreSteady}
-use Rattle.eid_model.specs.Legal.{AreLegal, kept}
-use Rattle.eid_model.specs.Trace.{trace}
-use Rattle.eid.specs.declared.exit.Exit.{Exit}
-use Rattle.eid.specs.declared.exit.Exit.TheVariants.{Done, Usage, FileFault, NoMemory, BadImage, BadScript, BadConfig, SinkFault, BadAnswers}
-use Rattle.eid_base.specs.declared.outside.IoError.{IoError}
-use Rattle.eid_base.specs.declared.outside.IoError.TheVariants as io
+use Rattle.eid_base.specs.Seen.{FolderSeen, SinkSeen, SameFiles, SameOthers, IsLeftBy}
 use Rattle.eid_base.specs.declared.codes.RunError.{RunError}
 use Rattle.eid_base.specs.declared.codes.RunError.TheVariants as run
+use Rattle.eid_base.specs.declared.outside.IoError.{IoError}
+use Rattle.eid_base.specs.declared.outside.IoError.TheVariants as io
+use Rattle.eid_record.specs.Plain.{FullRecord}
+use Rattle.eid_model.specs.Moments.{PlainMoment, script, AreSteady}
+use Rattle.eid_model.specs.Legal.{AreLegal, kept}
+use Rattle.eid_script.specs.Scripts.{ScriptLine, script_of}
+use Rattle.eid_run.specs.Runs.{journal, DidLines, DidSomeLines}
+use Rattle.eid.specs.declared.exit.Exit.{Exit}
+use Rattle.eid.specs.declared.exit.Exit.TheVariants.{Done, Usage, FileFault, NoMemory, BadImage, BadScript, BadConfig, SinkFault, BadAnswers}
 use Rattle.eid.specs.declared.load.Read.{Read}
 use Rattle.eid.specs.declared.load.Read.TheVariants as read
-use Rattle.eid.specs.Images.{stands}
-use Rattle.eid.specs.Scripts.{script_of}
+use Rattle.eid.specs.Images.{record_of}
 use Rattle.eid.specs.Commands.{Command, Run}
-use Rattle.eid.specs.Runs.{DidLines, DidSomeLines}
 
 -- what is read of an input, or the exit that refuses it: absent, or not of its form
 abbrev pub or_refused : {A : Type 0} → Option A → Exit → Result A Exit
 or_refused None exit = Err exit
 or_refused (Some value) exit = Ok value
 
-unfoldable pub image_in : Option (List ℕ) → Result OpeningRecord Exit
+unfoldable pub image_in : Option (List ℕ) → Result FullRecord Exit
 image_in None = Err FileFault
-image_in (Some bytes) = or_refused (stands bytes) BadImage
+image_in (Some bytes) = or_refused (record_of bytes) BadImage
 
-unfoldable pub script_in : Option (List ℕ) → Result (List PlainLine) Exit
+abbrev pub or_bad_line : Result (List ScriptLine) ℕ → Result (List ScriptLine) Exit
+or_bad_line (Ok lines) = Ok lines
+or_bad_line (Err line) = Err (BadScript line)
+
+unfoldable pub script_in : Option (List ℕ) → Result (List ScriptLine) Exit
 script_in None = Err FileFault
-script_in (Some text) = or_refused (script_of text) (BadScript 0)
+script_in (Some text) = or_bad_line (script_of text)
 
 -- the first refusal, or what comes later
 abbrev pub unless_refused : {A : Type 0} → Result A Exit → Exit → Exit
@@ -72,48 +76,51 @@ pub record DidNothing (old new : FolderSeen) (before now : SinkSeen) : Type 0 wh
   pub tells : now.tells ≡ before.tells
   pub written : IsTrue before.tells → now.written ≡ before.written
 
--- The run of a script that came to its end: one legal journal of the script's lines, from the record
--- that the image stands for, and its trace written.
-pub record RanWhole (image script_name : List ℕ) (old : FolderSeen) (before now : SinkSeen) (opening : OpeningRecord) : Type 0 where
-  pub lines : List PlainLine
+-- The run of a script that came to its end, over cells that stood for a record.
+pub record RanWhole (image script_name : List ℕ) (old : FolderSeen) (before now : SinkSeen) (opening : FullRecord) (cells new_cells : List ℕ) : Type 0 where
+  pub lines : List ScriptLine
   pub stood : IsTrue old.tells → image_in (old.file image) ≡ Ok opening
+  pub held : IsTrue old.tells → old.file image ≡ Some cells
   pub read : IsTrue old.tells → script_in (old.file script_name) ≡ Ok lines
-  pub ran : DidLines opening lines before now
+  pub ran : DidLines opening lines cells new_cells before now
 
--- no other journal is legal for this record and these lines
-abbrev pub IsOnlyJournal : OpeningRecord → List PlainMoment → Type 0
-IsOnlyJournal opening journal = (other : List PlainMoment) → AreLegal opening other → AreSteady other → script other ≡ script journal → other ≡ journal
+-- no other steady journal is legal for this record and these moments
+abbrev pub IsOnlyJournal : FullRecord → List PlainMoment → Type 0
+IsOnlyJournal opening moments = AreSteady moments × ((other : List PlainMoment) → AreLegal opening other → AreSteady other → script other ≡ script moments → other ≡ moments)
 
--- the image afterwards: unchanged, so it stands for the record kept
-pub record Stored (image : List ℕ) (old new : FolderSeen) (opening : OpeningRecord) (journal : List PlainMoment) : Type 0 where
-  pub same : IsTrue old.tells → new.file image ≡ old.file image
-  pub stands : IsTrue old.tells → image_in (new.file image) ≡ Ok (kept opening journal)
-  pub others : SameOthers image old new
-
--- a run of a script: all of it done
+-- a run of a script: all of it done. The image then has cells that stand for the record kept, of the
+-- same layout, and no other name changed.
 pub record Finished (image script_name : List ℕ) (old new : FolderSeen) (before now : SinkSeen) : Type 0 where
-  pub opening : OpeningRecord
-  pub whole : RanWhole image script_name old before now opening
-  pub only : IsOnlyJournal opening whole.ran.journal
+  pub opening : FullRecord
+  pub cells : List ℕ
+  pub new_cells : List ℕ
+  pub whole : RanWhole image script_name old before now opening cells new_cells
+  pub only : IsOnlyJournal opening (journal whole.ran.happened)
   pub tells : now.tells ≡ before.tells
-  pub stored : Stored image old new opening whole.ran.journal
+  pub stored : IsTrue old.tells → new.file image ≡ Some new_cells
+  pub stands : image_in (Some new_cells) ≡ Ok (kept opening (journal whole.ran.happened))
+  pub layout : slice_index new_cells 0 ≡ slice_index cells 0
+  pub others : SameOthers image old new
 
 -- a run that broke off: the files are as before, and a front of the trace was written
 pub record BrokeOff (image script_name : List ℕ) (old new : FolderSeen) (before now : SinkSeen) : Type 0 where
-  pub opening : OpeningRecord
-  pub lines : List PlainLine
+  pub opening : FullRecord
+  pub cells : List ℕ
+  pub lines : List ScriptLine
   pub stood : IsTrue old.tells → image_in (old.file image) ≡ Ok opening
   pub read : IsTrue old.tells → script_in (old.file script_name) ≡ Ok lines
-  pub ran : DidSomeLines opening lines before now
+  pub ran : DidSomeLines opening lines cells before now
   pub tells : now.tells ≡ before.tells
   pub files : SameFiles old new
 
--- the trace was written whole, and the image not stored: it is absent, old, or a front of the cells
+-- the trace was written whole, and the image not stored: it is absent, old, or a front of the new cells
 pub record NotStored (image script_name : List ℕ) (old new : FolderSeen) (before now : SinkSeen) : Type 0 where
-  pub opening : OpeningRecord
-  pub whole : RanWhole image script_name old before now opening
+  pub opening : FullRecord
+  pub cells : List ℕ
+  pub new_cells : List ℕ
+  pub whole : RanWhole image script_name old before now opening cells new_cells
   pub tells : now.tells ≡ before.tells
-  pub left : IsTrue old.tells → IsSomeAnd (old.file image) (λ cells. IsLeftBy (old.file image) (new.file image) cells)
+  pub left : IsTrue old.tells → IsLeftBy (old.file image) (new.file image) new_cells
   pub others : SameOthers image old new
 
 -- what was done, by the exit
@@ -135,10 +142,6 @@ IsEnd (Run image script_name start) old new before now exit = IsEndOfRun image s
 pub record Meets (c : Command) (old new : FolderSeen) (before now : SinkSeen) (exit : Exit) : Type 0 where
   pub reason : HasReason old.tells (expected c old.file) (Rose old.faults new.faults) (Rose before.faults now.faults) exit
   pub end : IsEnd c old new before now exit
-
--- the record of a plain image with this EF.CardAccess
-abbrev pub opening : List ℕ → OpeningRecord
-opening access = record { number = 0; card_access = access }
 
 -- what came of reading a file whole, up to a limit: its bytes, more of them than that, or a failure
 abbrev pub IsRead : Bool → Option (List ℕ) → ℕ → Type 0 → Read → Type 0
@@ -172,3 +175,15 @@ exit_not_stored io.Fault = FileFault
 -- the words ask for nothing: that is told, or memory is wanting, and nothing is done
 abbrev pub IsIdle : FolderSeen → FolderSeen → SinkSeen → SinkSeen → Exit → Type 0
 IsIdle old new before now exit = (new ≡ old) × (now ≡ before) × ((exit ≡ Usage) ⊎ (exit ≡ NoMemory))
+
+-- the exit names the line that is none
+abbrev pub IsBadScript : Exit → Result (List ScriptLine) Exit → Type 0
+IsBadScript (BadScript line) said = said ≡ Err (BadScript line)
+IsBadScript Done said = ⊥
+IsBadScript Usage said = ⊥
+IsBadScript FileFault said = ⊥
+IsBadScript NoMemory said = ⊥
+IsBadScript BadImage said = ⊥
+IsBadScript (BadConfig key) said = ⊥
+IsBadScript SinkFault said = ⊥
+IsBadScript (BadAnswers line) said = ⊥

@@ -1,18 +1,24 @@
 //! Reading the input files.
-ghost use Rattle.std.specs.Prelude.{◌≡◌, ◌≤◌, map, vec_len, nat_lt, if◌then◌else◌, IsTrue, IfOk, IfErr, ◌⊎◌};
+ghost use Rattle.std.specs.Prelude.{◌≡◌, ◌≤◌, ◌⊎◌, map, vec_len, length, nat_lt, is_some, if◌then◌else◌, IsTrue, IsSome, IfOk, IfErr};
 ghost use Rattle.eid_base.specs.Faults.{Rose};
 ghost use Rattle.eid_base.specs.Seen.{SameFiles};
-ghost use Rattle.eid.specs.Images.{stands};
-ghost use Rattle.eid.specs.Scripts.{plain_line, script_of};
-ghost use Rattle.eid.specs.Works.{image_in, script_in, IsRead, IsRefused, opening};
+ghost use Rattle.eid_store.specs.Stands.{stands};
+ghost use Rattle.eid_script.specs.Scripts.{plain_line, script_of};
+ghost use Rattle.eid.specs.Images.{record_of};
+ghost use Rattle.eid.specs.Works.{image_in, script_in, or_bad_line, IsRead, IsRefused, IsBadScript};
 
 use crate::exit::Exit;
-use crate::image::{IMAGE_SIZE, read_image};
-use crate::script::{Line, SCRIPT_LIMIT, ScriptError, read_script};
-use arrayvec::ArrayVec;
-use eid_base::{Folder, IoError};
-use eid_chip::MAX_FILE;
+use eid_base::{Folder, IoError, NoMemory};
+use eid_cells::{Eeprom, MemoryEeprom};
+use eid_script::{Line, ScriptError, read_script};
+use eid_store::Store;
 use std::alloc::Global;
+
+/// How many bytes an image has.
+pub const IMAGE_SIZE: usize = 65536;
+
+/// How many bytes the longest script has.
+const SCRIPT_LIMIT: usize = 1_048_576;
 
 /// What came of reading a file whole, up to a limit.
 #[derive(Debug, Drop)]
@@ -52,35 +58,41 @@ fn cut_off(bytes: Vec<u8>, limit: usize) -> Read
     }
 }
 
-/// An image that was read: its bytes, and EF.CardAccess.
-#[derive(Debug, Drop)]
-pub struct Image {
-    pub bytes: Vec<u8>,
-    pub access: ArrayVec<u8, MAX_FILE>,
+/// Whether cells stand for a record. They are mounted on a device of their own.
+fn is_record(alloc: Global, cells: &[u8]) -> Result<bool, NoMemory>
+    requires { length cells.now ≡ 65536 }
+    ensures { IfOk result (λ b. b ≡ is_some (stands cells.now)) }
+{
+    let mut device = MemoryEeprom::new(Vec::from_slice(alloc, cells)?);
+    device.power(true);
+    Ok(Store::mount(&mut device).is_ok())
 }
 
 /// The image of these bytes.
-fn image_of(bytes: Vec<u8>) -> Result<Image, Exit>
-    ensures bytes { IfOk result (λ i. i.bytes ≡ bytes) }
-    ensures access { IfOk result (λ i. stands bytes.items ≡ Some (opening i.access.items)) }
-    ensures refused { IfErr result (λ e. (e ≡ Exit.BadImage) × (stands bytes.items ≡ None)) }
+fn image_of(alloc: Global, bytes: Vec<u8>) -> Result<Vec<u8>, Exit>
+    ensures image { IfOk result (λ image. (image ≡ bytes) × (length bytes.items ≡ 65536) × IsSome (stands bytes.items)) }
+    ensures refused { IfErr result (λ e. (e ≡ Exit.NoMemory) ⊎ ((e ≡ Exit.BadImage) × (record_of bytes.items ≡ None))) }
 {
-    match read_image(bytes.as_slice()) {
-        Some(access) => Ok(Image { bytes, access }),
-        None => Err(Exit::BadImage),
+    if bytes.len() != IMAGE_SIZE {
+        return Err(Exit::BadImage);
+    }
+    match is_record(alloc, bytes.as_slice()) {
+        Ok(true) => Ok(bytes),
+        Ok(false) => Err(Exit::BadImage),
+        Err(_) => Err(Exit::NoMemory),
     }
 }
 
-/// Reads an image.
-pub fn load_image<F: Folder>(alloc: Global, folder: &mut F, name: &str) -> Result<Image, Exit>
-    ensures image { IfOk result (λ i. IsTrue (F.seen folder.old).tells → image_in ((F.seen folder.old).file name.now) ≡ Ok (opening i.access.items)) }
-    ensures bytes { IfOk result (λ i. IsTrue (F.seen folder.old).tells → (F.seen folder.old).file name.now ≡ Some i.bytes.items) }
+/// Reads an image: cells that stand for a record.
+pub fn load_image<F: Folder>(alloc: Global, folder: &mut F, name: &str) -> Result<Vec<u8>, Exit>
+    ensures stands { IfOk result (λ cells. (length cells.items ≡ 65536) × IsSome (stands cells.items)) }
+    ensures held { IfOk result (λ cells. IsTrue (F.seen folder.old).tells → (F.seen folder.old).file name.now ≡ Some cells.items) }
     ensures refused { IfErr result (λ e. IsRefused (F.seen folder.old).tells (image_in ((F.seen folder.old).file name.now)) (Rose (F.seen folder.old).faults (F.seen folder.new).faults) e) }
     ensures same { SameFiles (F.seen folder.old) (F.seen folder.new) }
     ensures later { (F.seen folder.old).faults ≤ (F.seen folder.new).faults }
 {
     match read_whole(alloc, folder, name, IMAGE_SIZE) {
-        Read::Whole(bytes) => image_of(bytes),
+        Read::Whole(bytes) => image_of(alloc, bytes),
         Read::TooLong => Err(Exit::BadImage),
         Read::NoMemory => Err(Exit::NoMemory),
         Read::Failed => Err(Exit::FileFault),
@@ -89,12 +101,12 @@ pub fn load_image<F: Folder>(alloc: Global, folder: &mut F, name: &str) -> Resul
 
 /// The script of this text.
 fn script_of_text(alloc: Global, text: &[u8]) -> Result<Vec<Line>, Exit>
-    ensures found { IfOk result (λ lines. script_of text.now ≡ Some (map plain_line lines.items)) }
-    ensures refused { IfErr result (λ e. (e ≡ Exit.NoMemory) ⊎ ((e ≡ Exit.BadScript 0) × (script_of text.now ≡ None))) }
+    ensures found { IfOk result (λ lines. or_bad_line (script_of text.now) ≡ Ok (map plain_line lines.items)) }
+    ensures refused { IfErr result (λ e. (e ≡ Exit.NoMemory) ⊎ IsBadScript e (or_bad_line (script_of text.now))) }
 {
     match read_script(alloc, text) {
         Ok(lines) => Ok(lines),
-        Err(ScriptError::Bad) => Err(Exit::BadScript { line: 0 }),
+        Err(ScriptError::Bad { line }) => Err(Exit::BadScript { line }),
         Err(ScriptError::NoMemory) => Err(Exit::NoMemory),
     }
 }

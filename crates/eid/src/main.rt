@@ -2,11 +2,8 @@
 #![tactic(auto)]
 
 mod exit;
-mod image;
 mod load;
 mod program;
-mod run;
-mod script;
 #[cfg(test)]
 mod tests;
 mod words;

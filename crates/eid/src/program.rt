@@ -6,10 +6,10 @@ ghost use Rattle.eid.specs.Works.{Meets, IsIdle, exit_broken, exit_not_stored};
 
 use crate::exit::Exit;
 use crate::load::{load_image, load_script};
-use crate::run::run_lines;
 use crate::words::{Words, read_words};
 use eid_base::{Folder, IoError, RunError, Sink};
-use eid_chip::Chip;
+use eid_cells::MemoryEeprom;
+use eid_run::run_script;
 use std::alloc::Global;
 
 /// The exit of a run that broke off.
@@ -32,7 +32,8 @@ fn exit_of_write(error: IoError) -> Exit
     }
 }
 
-/// Runs a script on an image: reads and checks both, writes the trace, and then stores the image.
+/// Runs a script on an image: reads and checks both, writes the trace, and then stores the cells that
+/// the run left.
 fn run<F: Folder, K: Sink>(
     alloc: Global,
     image: &str,
@@ -44,19 +45,19 @@ fn run<F: Folder, K: Sink>(
     ensures { Meets (Run image.now script.now start) (F.seen folder.old) (F.seen folder.new) (K.seen out.old) (K.seen out.new) result }
 {
     let _ = start;
-    let loaded = match load_image(alloc, folder, image) {
-        Ok(loaded) => loaded,
+    let cells = match load_image(alloc, folder, image) {
+        Ok(cells) => cells,
         Err(exit) => return exit,
     };
     let lines = match load_script(alloc, folder, script) {
         Ok(lines) => lines,
         Err(exit) => return exit,
     };
-    let mut chip = Chip::new(loaded.access);
-    if let Err(error) = run_lines(alloc, &mut chip, lines.as_slice(), out) {
+    let mut device = MemoryEeprom::new(cells);
+    if let Err(error) = run_script(alloc, lines.as_slice(), &mut device, out) {
         return exit_of_run(error);
     }
-    match folder.write(image, loaded.bytes.as_slice()) {
+    match folder.write(image, device.cells()) {
         Ok(()) => Exit::Done,
         Err(error) => exit_of_write(error),
     }

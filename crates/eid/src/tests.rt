@@ -6,25 +6,62 @@ use eid_base::{MemoryFolder, MemorySink};
 use std::alloc::AllocError;
 use std::test::Fail;
 
-/// The bytes of an image of this size, with this byte 0, this length, and these bytes behind it.
-fn image_with(
-    rt: &HostRuntime,
-    layout: u8,
-    length: u16,
-    access: &[u8],
-    size: usize,
-) -> Result<Vec<u8>, AllocError> {
+/// The parts of an image's cells that are not 00, up to the lengths of its files, with their places. A
+/// separate writing of the format made them.
+const PARTS: [(usize, &[u8]); 9] = [
+    (0, b"\x01"),
+    (64, b"\xa5"),
+    (132, b"\x03\x0a\x01123456654321"),
+    (147, b"0123456789\x02\x06\x00\x01\x00\x01"),
+    (
+        192,
+        b"\x0dDECVCAAT00001\x00\x00\x00\xfe\x1f\xff\xff\x37\x04",
+    ),
+    (246, b"\x23"),
+    (279, b"\x01"),
+    (479, b"\x09"),
+    (511, b"\x0b"),
+];
+
+/// The lengths of the other files: EF.CardSecurity and data groups 1 to 21.
+const LENGTHS: [u8; 44] = [
+    0x00, 0x02, 0xff, 0xff, 0xff, 0xff, 0x00, 0x08, 0x00, 0x05, 0x00, 0x0a, 0xff, 0xff, 0xff, 0xff,
+    0x00, 0x08, 0xff, 0xff, 0xff, 0xff, 0xff, 0xff, 0xff, 0xff, 0xff, 0xff, 0xff, 0xff, 0xff, 0xff,
+    0xff, 0xff, 0x00, 0x08, 0x00, 0x07, 0xff, 0xff, 0xff, 0xff, 0xff, 0xff,
+];
+
+/// The bytes of the other files.
+const FILES: &[u8] =
+    b"0\x0020301231ERIKAMUSTERMANN19900315\x00\x00\x00\x00\x00\x00\x00\x00\x02\x76\x11\x00\x00\x00\x00";
+
+/// An image of this size with this EF.CardAccess.
+fn image_of_size(rt: &HostRuntime, access: &[u8], size: usize) -> Result<Vec<u8>, AllocError> {
     let mut bytes = Vec::new(rt.alloc());
-    bytes.push(layout)?;
-    bytes.extend_from_slice(&length.to_be_bytes())?;
+    for (place, part) in PARTS {
+        bytes.resize(place, 0)?;
+        bytes.extend_from_slice(part)?;
+    }
+    bytes.extend_from_slice(&((access.len() % 65_536) as u16).to_be_bytes())?;
+    bytes.extend_from_slice(&LENGTHS)?;
+    bytes.resize(576, 0)?;
     bytes.extend_from_slice(access)?;
+    bytes.extend_from_slice(FILES)?;
     bytes.resize(size, 0)?;
     Ok(bytes)
 }
 
-/// A plain image with this EF.CardAccess.
+/// An image with this EF.CardAccess.
 fn image(rt: &HostRuntime, access: &[u8]) -> Result<Vec<u8>, AllocError> {
-    image_with(rt, 0, (access.len() % 65536) as u16, access, 65_536)
+    image_of_size(rt, access, 65_536)
+}
+
+/// An image with another byte at this place.
+fn image_but(rt: &HostRuntime, place: usize, byte: u8) -> Result<Vec<u8>, AllocError> {
+    let mut bytes = image(rt, &[0x31, 0x00])?;
+    if let Some(cell) = bytes.as_mut_slice().get_mut(place) {
+        *cell = byte;
+    }
+    Ok(bytes)
 }
 
 /// The words of a command line.
@@ -216,56 +253,100 @@ fn a_selection_lasts_until_the_next_and_a_session_until_power(rt: HostRuntime) -
 }
 
 #[test]
-fn a_text_that_is_no_script_is_refused(rt: HostRuntime) -> Result<(), Fail> {
+fn the_first_bad_line_is_named(rt: HostRuntime) -> Result<(), Fail> {
     let a = image(&rt, &[0x31, 0x00])?;
-    let bad = Exit::BadScript { line: 0 };
-    let texts = [
-        b"apdu 00B".as_slice(),
-        b"on\napdu 00B\n",
-        b"on\ncut 1 old\n",
-        b"ON\n",
-        b"on \n",
-        b"on\r\n",
-        b"apdu\n",
-        b"apdu \n",
-        b"apdu  00B0\n",
+    let rows = [
+        (b"apdu 00B".as_slice(), 1),
+        (b"on\napdu 00B\n", 2),
+        (b"on\ncut 0 old\n", 2),
+        (b"on\n\ncut 01 old\n", 3),
+        (b"# c\ncut 1 fill 5\non\n", 2),
+        (b"cut 1000000 half\ncut 1000001 new\n", 2),
+        (b"ON\n", 1),
+        (b"on \n", 1),
+        (b"on\r\n", 1),
+        (b"apdu\n", 1),
+        (b"apdu \n", 1),
+        (b"apdu  00B0\n", 1),
     ];
-    for text in texts {
-        assert!(rt; ends(&rt, a.as_slice(), text, bad, b"")?);
+    for (text, line) in rows {
+        assert!(rt;
+            ends(&rt, a.as_slice(), text, Exit::BadScript { line }, b"")?,
+            "line {line}"
+        );
     }
-    let mut long = Vec::new(rt.alloc());
-    long.resize(1_048_577, b'\n')?;
-    assert!(rt; ends(&rt, a.as_slice(), long.as_slice(), bad, b"")?);
-    long.truncate(1_048_576);
-    assert!(rt; ends(&rt, a.as_slice(), long.as_slice(), Exit::Done, b"")?);
-    assert!(rt;
-        ends(
-            &rt,
-            a.as_slice(),
-            b"# a comment\n\non\n",
-            Exit::Done,
-            b"on 0\n"
-        )?
-    );
     Ok(())
 }
 
 #[test]
-fn bytes_that_are_no_image_are_refused(rt: HostRuntime) -> Result<(), Fail> {
-    for (layout, length, size) in [
-        (0, 2, 65_535),
-        (0, 2, 65_537),
-        (1, 2, 65_536),
-        (0, 2_049, 65_536),
-    ] {
-        let bad = image_with(&rt, layout, length, &[0x31, 0x00], size)?;
+fn a_script_of_a_mebibyte_is_the_longest(rt: HostRuntime) -> Result<(), Fail> {
+    let a = image(&rt, &[0x31, 0x00])?;
+    let mut long = Vec::new(rt.alloc());
+    long.resize(1_048_577, b'\n')?;
+    let bad = Exit::BadScript { line: 0 };
+    assert!(rt; ends(&rt, a.as_slice(), long.as_slice(), bad, b"")?);
+    long.truncate(1_048_576);
+    assert!(rt; ends(&rt, a.as_slice(), long.as_slice(), Exit::Done, b"")?);
+    Ok(())
+}
+
+#[test]
+fn comments_empty_lines_and_planned_cuts_write_nothing(rt: HostRuntime) -> Result<(), Fail> {
+    let a = image(&rt, &[0x31, 0x00])?;
+    let script = b"# a comment\n\non\ncut 1 half\ncut 2 fill a5\noff\n";
+    assert!(rt; ends(&rt, a.as_slice(), script, Exit::Done, b"on 0\noff\n")?);
+    Ok(())
+}
+
+#[test]
+fn cells_that_stand_for_no_record_are_refused(rt: HostRuntime) -> Result<(), Fail> {
+    for size in [65_535, 65_537] {
+        let bad = image_of_size(&rt, &[0x31, 0x00], size)?;
         assert!(rt;
             ends(&rt, bad.as_slice(), b"on", Exit::BadImage, b"")?,
-            "{layout} {length} {size}"
+            "{size}"
         );
     }
-    let longest = image_with(&rt, 0, 2_048, &[0x31, 0x00], 65_536)?;
-    assert!(rt; ends(&rt, longest.as_slice(), b"on", Exit::Done, b"on 0\n")?);
+    // the layout, the first gate, both gates (which is allowed), the tries, a digit of the date, and a length
+    for (place, byte) in [
+        (0, 0),
+        (0, 2),
+        (64, 0),
+        (65, 0xa5),
+        (132, 4),
+        (159, 13),
+        (512, 9),
+    ] {
+        let bad = image_but(&rt, place, byte)?;
+        let expected = if place == 65 {
+            Exit::Done
+        } else {
+            Exit::BadImage
+        };
+        let written = if place == 65 {
+            b"on 0\n".as_slice()
+        } else {
+            b""
+        };
+        assert!(rt;
+            ends(&rt, bad.as_slice(), b"on", expected, written)?,
+            "{place}"
+        );
+    }
+    let mut longest = Vec::new(rt.alloc());
+    longest.resize(2_048, 0x31)?;
+    let good = image(&rt, longest.as_slice())?;
+    assert!(rt; ends(&rt, good.as_slice(), b"on", Exit::Done, b"on 0\n")?);
+    longest.push(0x31)?;
+    let bad = image(&rt, longest.as_slice())?;
+    assert!(rt; ends(&rt, bad.as_slice(), b"on", Exit::BadImage, b"")?);
+    Ok(())
+}
+
+#[test]
+fn a_power_on_tells_the_number_of_commits(rt: HostRuntime) -> Result<(), Fail> {
+    let a = image_but(&rt, 131, 7)?;
+    assert!(rt; ends(&rt, a.as_slice(), b"on\n", Exit::Done, b"on 7\n")?);
     Ok(())
 }
 

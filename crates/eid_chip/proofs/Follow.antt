@@ -1,18 +1,16 @@
 -- From the response to a command to the journal with its moment.
-use Rattle.std.proofs.Common.{◌≡◌, ℕ, Bool, true, false, ◌==◌, ◌&&◌, not, List, [], ◌∷◌, Option, Some, None, refl, sym, ap, ◌∙◌, subst}
-use Rattle.std.specs.Prelude.{if◌then◌else◌, is_some, unwrap_or, option_map}
+use Rattle.std.proofs.Common.{◌≡◌, ℕ, Bool, true, false, ◌==◌, not, List, [], ◌∷◌, Option, Some, None, refl, sym, ap, ◌∙◌}
+use Rattle.std.specs.Prelude.{if◌then◌else◌, is_some, unwrap_or}
 use Rattle.std.specs.Option.{option_or}
 use Rattle.eid_apdu.specs.Command.{PlainCommand}
-use Rattle.eid_apdu.specs.Answer.{PlainReply, plain_reply, spelled}
+use Rattle.eid_record.specs.Plain.{FullRecord}
 use Rattle.eid_model.specs.declared.kind.Kind.{Kind}
 use Rattle.eid_model.specs.Kinds.{kind_named}
-use Rattle.eid_model.specs.Moments.{Received, PlainMoment, OpeningRecord, on, live, ends_session_by, ends_session}
+use Rattle.eid_model.specs.Moments.{PlainMoment, on, live, ends_session_by}
 use Rattle.eid_model.specs.Sessions.{State, state_of, selection, naming, selected, current, advanced}
-use Rattle.eid_model.specs.Rules.{Heard, NoCommand, Command, plain_of}
+use Rattle.eid_model.specs.Rules.{Heard, NoCommand, Command}
 use Rattle.eid_model.specs.Answers.{Outcome, outcome, situation, kind_heard, command_of, state_answered}
-use Rattle.eid_model.specs.Legal.{IsHeard, IsAnswered, IsHandled, IsLegalMoment, answered, outcome_after, kept}
-use Rattle.eid_chip.specs.ChipView.{ChipView}
-use Rattle.eid_chip.specs.Fits.{Fits}
+use Rattle.eid_model.specs.Legal.{IsHeard, IsHandled, answered, outcome_after}
 
 -- what a moment adds, where it carried out this kind, or none
 more : (carried : Bool) (kind : Option Kind) (c : PlainCommand) (session : List PlainMoment) → record { next = None; selected = unwrap_or (selection (if carried then kind else None)) (selected session); current = if is_some (selection (if carried then kind else None)) then None else option_or (naming (if carried then kind else None) (Some c)) (current session) } ≡ (if carried then (elim kind [ None ↦ state_of session | Some k ↦ advanced k c (state_of session) ]) else state_of session)
@@ -37,26 +35,17 @@ pub state_more : (bytes : List ℕ) (heard : Heard) (o : Outcome) (session : Lis
 state_more bytes NoCommand o session = unheard (o.rule == 0) session
 state_more bytes (Command c) o session = more (o.rule == 0) (kind_named None c) c session ∙ answered_by o.rule (kind_named None c) c (state_of session)
 
--- a chip that answered by the rules makes a legal moment, and fits the journal with it
-pub responded : (access : List ℕ) (old new : State) (opening : OpeningRecord) (before : List PlainMoment) (bytes : List ℕ) (heard : Heard) (o : Outcome) → Fits (record { access = access; life = Some old }) opening before → IsHeard bytes heard → outcome (situation opening old heard) ≡ o → new ≡ state_answered o.rule (kind_heard old heard) (command_of heard) old → ends_session_by o.rule ≡ false → IsHandled opening before bytes (answered bytes heard o) × Fits (record { access = access; life = Some new }) opening (answered bytes heard o ∷ before)
-responded access old new opening before bytes heard o fits hears ended session goes_on = at (on before) refl
-  where
-    at : (power : Bool) → on before ≡ power → IsHandled opening before bytes (answered bytes heard o) × Fits (record { access = access; life = Some new }) opening (answered bytes heard o ∷ before)
-    at true power =
-        let life : Some old ≡ Some (state_of (live before)) = fits.life ∙ ap (λ (b : Bool). if b then Some (state_of (live before)) else None) power in
-        let is : old ≡ state_of (live before) = cc in
-        let same : o ≡ outcome_after opening before heard = sym ended ∙ ap (λ (s : State). outcome (situation opening s heard)) is in
-        let m : PlainMoment = answered bytes heard o in
-        let goes : live (m ∷ before) ≡ m ∷ live before = ap (λ (b : Bool). if not (not b) then [] else m ∷ live before) goes_on in
-        let next : new ≡ state_of (m ∷ live before) = session ∙ ap (λ (s : State). state_answered o.rule (kind_heard s heard) (command_of heard) s) is ∙ sym (state_more bytes heard o (live before)) in (
-          record {
-            powered = λ on_is. record { heard = heard; hears = hears; moment = ap (answered bytes heard) same };
-            unpowered = λ off_is. absurd (cc);
-          },
-          record {
-            access = fits.access;
-            number = fits.number;
-            life = ap Some next ∙ ap (λ (l : List PlainMoment). Some (state_of l)) (sym goes) ∙ ap (λ (b : Bool). if b then Some (state_of (live (m ∷ before))) else None) (sym power);
-          },
-        )
-    at false power = absurd (cc (fits.life ∙ ap (λ (b : Bool). if b then Some (state_of (live before)) else None) power))
+-- a command that was answered by the rules makes a legal moment, after which the state is that of the live moments
+pub responded : (old new : State) (opening : FullRecord) (before : List PlainMoment) (bytes : List ℕ) (heard : Heard) (o : Outcome) → on before ≡ true → old ≡ state_of (live before) → IsHeard bytes heard → outcome (situation opening old heard) ≡ o → new ≡ state_answered o.rule (kind_heard old heard) (command_of heard) old → ends_session_by o.rule ≡ false → IsHandled opening before bytes (answered bytes heard o) × (on (answered bytes heard o ∷ before) ≡ true) × (new ≡ state_of (live (answered bytes heard o ∷ before)))
+responded old new opening before bytes heard o power is hears ended session goes_on =
+    let same : o ≡ outcome_after opening before heard = sym ended ∙ ap (λ (s : State). outcome (situation opening s heard)) is in
+    let m : PlainMoment = answered bytes heard o in
+    let goes : live (m ∷ before) ≡ m ∷ live before = ap (λ (b : Bool). if not (not b) then [] else m ∷ live before) goes_on in
+    let next : new ≡ state_of (m ∷ live before) = session ∙ ap (λ (s : State). state_answered o.rule (kind_heard s heard) (command_of heard) s) is ∙ sym (state_more bytes heard o (live before)) in (
+      record {
+        powered = λ on_is. record { heard = heard; hears = hears; moment = ap (answered bytes heard) same };
+        unpowered = λ off_is. absurd (cc);
+      },
+      power,
+      next ∙ ap state_of (sym goes),
+    )

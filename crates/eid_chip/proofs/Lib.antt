@@ -1,2 +1,4 @@
-pub mod Outcomes
+pub mod Chips
 pub mod Follow
+pub mod HeldFiles
+pub mod Outcomes

@@ -2,13 +2,14 @@
 use Rattle.std.proofs.Common.{◌≡◌, ℕ, Bool, true, false, ◌==◌, ◌&&◌, not, List, [], ◌∷◌, ◌++◌, Option, Some, None, refl, sym, ap, ◌∙◌, subst}
 use Rattle.std.specs.Prelude.{if◌then◌else◌, option_map}
 use Rattle.eid_apdu.specs.Command.{PlainCommand}
-use Rattle.eid_apdu.specs.Answer.{PlainReply, plain_reply}
+use Rattle.eid_apdu.specs.Answer.{plain_reply}
+use Rattle.eid_record.specs.Plain.{FullRecord}
 use Rattle.eid_model.specs.declared.kind.Kind.{Kind}
 use Rattle.eid_model.specs.Kinds.{kind_named}
-use Rattle.eid_model.specs.Moments.{OpeningRecord, ends_session_by}
+use Rattle.eid_model.specs.Moments.{ends_session_by}
 use Rattle.eid_model.specs.Sessions.{State}
-use Rattle.eid_model.specs.Rules.{Heard, NoCommand, Command, Situation, RuleRow, hearing_rules, naming_rules, kind_rules, concerns, first_failed}
-use Rattle.eid_model.specs.Answers.{Outcome, outcome, outcome_by, situation, rules, status_alone, state_answered}
+use Rattle.eid_model.specs.Rules.{Command, Situation, RuleRow, naming_rules, kind_rules, concerns, first_failed}
+use Rattle.eid_model.specs.Answers.{outcome, outcome_by, situation, rules, status_alone, state_answered}
 use Rattle.eid_chip.specs.declared.reaction.Reaction.{Reaction}
 use Rattle.eid_chip.specs.Steps.{state, PlainRefusal, refusal_by, known, heard_command, outcome_of, Told, Answers}
 
@@ -33,7 +34,7 @@ failed [] more s r e = absurd (cc)
 failed (row ∷ rows) more s r e = failed_at (concerns row.kinds s.kind && not (row.holds s)) row rows more s r (failed rows more s r) e
 
 -- a command of a known kind is answered by the rules of its kind
-pub told_answers : (kept : OpeningRecord) (old : State) (c : PlainCommand) (kind : Kind) (r : Reaction) → old.next ≡ None → kind_named None c ≡ Some kind → refusal_by naming_rules (heard_command kept old c) ≡ None → Told kind kept old c r → Answers kept old (Command c) r
+pub told_answers : (kept : FullRecord) (old : State) (c : PlainCommand) (kind : Kind) (r : Reaction) → old.next ≡ None → kind_named None c ≡ Some kind → refusal_by naming_rules (heard_command kept old c) ≡ None → Told kind kept old c r → Answers kept old (Command c) r
 unfolding outcome
 told_answers kept old c kind r no_next named passes told =
     let is : kind_named old.next c ≡ Some kind = ap (λ (n : Option Kind). kind_named n c) no_next ∙ named in
@@ -58,7 +59,7 @@ keeps rule None c old e = refl
 keeps rule (Some kind) c old e = keeps_session (rule == 0) old _ e
 
 -- a command whose class, instruction or parameters are refused
-pub refused_answers : (kept : OpeningRecord) (old : State) (c : PlainCommand) (refused : PlainRefusal) (r : Reaction) → refusal_by naming_rules (heard_command kept old c) ≡ Some refused → (refused.rule == 0) ≡ false → ends_session_by refused.rule ≡ false → r.rule.0 ≡ refused.rule → plain_reply r.reply ≡ status_alone refused.status → state r.session ≡ old → Answers kept old (Command c) r
+pub refused_answers : (kept : FullRecord) (old : State) (c : PlainCommand) (refused : PlainRefusal) (r : Reaction) → refusal_by naming_rules (heard_command kept old c) ≡ Some refused → (refused.rule == 0) ≡ false → ends_session_by refused.rule ≡ false → r.rule.0 ≡ refused.rule → plain_reply r.reply ≡ status_alone refused.status → state r.session ≡ old → Answers kept old (Command c) r
 unfolding outcome
 refused_answers kept old c refused r fails is_one goes_on rule reply session =
     let whole = failed naming_rules kind_rules (situation kept old (Command c)) refused fails in

@@ -1,24 +1,45 @@
--- When a chip fits a journal.
-use Rattle.std.specs.Prelude.{◌≡◌, ℕ, Bool, true, false, List, ◌∷◌, Option, Some, None, option_map, if◌then◌else◌}
+-- When a chip over a device fits a journal.
+use Rattle.std.specs.Prelude.{◌≡◌, ℕ, Bool, true, false, List, ◌∷◌, Option, Some, None, is_some, is_none, option_map, Result, Ok, Err}
 use Rattle.eid_apdu.specs.Answer.{plain_reply}
-use Rattle.eid_model.specs.Moments.{Received, PlainMoment, OpeningRecord, on, live}
-use Rattle.eid_model.specs.Sessions.{State, state_of}
-use Rattle.eid_model.specs.Legal.{IsLegalMoment, silent}
+use Rattle.eid_cells.specs.Device.{Device}
+use Rattle.eid_record.specs.Plain.{FullRecord}
+use Rattle.eid_store.specs.declared.durable.MountError.{MountError}
+use Rattle.eid_store.specs.Stands.{stands}
+use Rattle.eid_store.specs.Store as store
+use Rattle.eid_model.specs.Moments.{Received, PlainMoment, on, live}
+use Rattle.eid_model.specs.Sessions.{state_of}
+use Rattle.eid_model.specs.Legal.{IsLegalMoment, silent, kept}
 use Rattle.eid_model.specs.View as view
-use Rattle.eid_chip.specs.ChipView.{ChipView}
+use Rattle.eid_chip.specs.declared.running.Running.{Running}
+use Rattle.eid_chip.specs.declared.chip.Chip.{Chip}
 use Rattle.eid_chip.specs.declared.chip.Handled.{Handled}
 use Rattle.eid_chip.specs.declared.chip.Handled.TheVariants.{Silent, Answered}
+use Rattle.eid_chip.specs.Steps.{state}
 
--- the chip is where these moments leave a chip with this record
-pub record Fits (chip : ChipView) (opening : OpeningRecord) (moments : List PlainMoment) : Type 0 where
-  pub access : chip.access ≡ opening.card_access
-  pub number : opening.number ≡ 0
-  pub life : chip.life ≡ (if on moments then Some (state_of (live moments)) else None)
+-- where the chip is on, its store fits the cells
+abbrev pub IsSoundLife : Option Running → Device → List ℕ → Type 0
+IsSoundLife None device cells = Unit {0}
+IsSoundLife (Some running) device cells = store.Fits running.store device cells
 
--- from one chip to another by a moment: wherever the first fits a journal, the moment is legal there,
--- and the second fits the journal with it
-abbrev pub Follows : ChipView → ChipView → PlainMoment → Type 0
-Follows old new m = (opening : OpeningRecord) (before : List PlainMoment) → Fits old opening before → IsLegalMoment opening before m × Fits new opening (m ∷ before)
+abbrev pub IsSound : Chip → Device → List ℕ → Type 0
+IsSound chip device cells = IsSoundLife chip.life device cells
+
+-- where the chip is on, its state is that of the live moments
+abbrev pub HasState : Option Running → List PlainMoment → Type 0
+HasState None moments = Unit {0}
+HasState (Some running) moments = state running.session ≡ state_of (live moments)
+
+-- The chip over its device is where these moments leave a chip whose cells stood for this record.
+pub record Fits (chip : Chip) (device : Device) (cells : List ℕ) (opening : FullRecord) (moments : List PlainMoment) : Type 0 where
+  pub powered : is_some chip.life ≡ on moments
+  pub sound : IsSound chip device cells
+  pub living : HasState chip.life moments
+  pub standing : stands cells ≡ Some (kept opening moments)
+
+-- From one chip over its device to another by a moment: wherever the first fits a journal, the moment is
+-- legal there, and the second fits the journal with it.
+abbrev pub Follows : Chip → Device → List ℕ → Chip → Device → List ℕ → PlainMoment → Type 0
+Follows old device cells new new_device new_cells m = (opening : FullRecord) (before : List PlainMoment) → Fits old device cells opening before → IsLegalMoment opening before m × Fits new new_device new_cells opening (m ∷ before)
 
 -- the moment of bytes handled so
 abbrev pub handled : List ℕ → Handled → PlainMoment
@@ -32,6 +53,14 @@ handled bytes (Answered plain finished rule answer sent) = record {
   sent = Some sent.items;
 }
 
+-- the number that a power-on found, where mounting was not cut
+abbrev pub found : Result ℕ MountError → Option ℕ
+found (Ok number) = Some number
+found (Err error) = None
+
 abbrev pub is_silent : Handled → Bool
 is_silent Silent = true
 is_silent (Answered plain finished rule answer sent) = false
+
+abbrev pub is_off : Chip → Bool
+is_off chip = is_none chip.life

@@ -1,3 +1,3 @@
-pub mod ChipView
 pub mod Fits
+pub mod Held
 pub mod Steps

@@ -1,33 +1,30 @@
 //! The chip, and what it does with the bytes of a command.
-ghost use Rattle.std.specs.Prelude.{◌≡◌, ◌≤◌, None, Some, is_none, length};
+ghost use Rattle.std.specs.Prelude.{◌≡◌, ◌≢◌, ◌≤◌, ◌↔◌, true, false, length, slice_index};
 ghost use Rattle.eid_apdu.specs.Command.{plain_command};
-ghost use Rattle.eid_model.specs.Moments.{PoweredOn, PoweredOff, OpeningRecord};
+ghost use Rattle.eid_record.specs.Plain.{FullRecord};
+ghost use Rattle.eid_cells.specs.Device.{WasCut};
+ghost use Rattle.eid_store.specs.Store as stored;
+ghost use Rattle.eid_store.specs.Stands.{stands};
+ghost use Rattle.eid_model.specs.Moments.{PoweredOn, PoweredOff};
 ghost use Rattle.eid_model.specs.Rules.{NoCommand};
 ghost use Rattle.eid_model.specs.Legal.{silent};
 ghost use Rattle.eid_model.specs.View as view;
+ghost use Rattle.eid_chip.specs.Held.{held};
 ghost use Rattle.eid_chip.specs.Steps.{Answers, Responds, state, as_heard};
-ghost use Rattle.eid_chip.specs.Fits.{Follows, handled, is_silent};
 
 use crate::naming::kind_of;
-use crate::reaction::{Reaction, refused};
+use crate::reaction::{Reaction, Response, refused};
 use crate::refusal::NO_COMMAND;
+use crate::running::Running;
 use crate::select::{read_binary, select_application, select_file, select_master_file};
 use crate::session::Session;
 use arrayvec::ArrayVec;
 use eid_apdu::{Command, Reply, read_command, write_reply};
 use eid_base::Rule;
+use eid_cells::Eeprom;
 use eid_model::{Kind, MAX_BODY, Plain};
-use std::marker::Model;
-
-/// How many bytes EF.CardAccess has at most.
-pub const MAX_FILE: usize = 2048;
-
-/// What was heard, and how it ended.
-#[derive(Debug, Drop)]
-pub struct Response {
-    pub plain: Option<Plain>,
-    pub reaction: Reaction,
-}
+use eid_store::{MountError, Store};
+use std::mem;
 
 /// What came of the bytes of a command.
 #[derive(Debug, Drop)]
@@ -67,23 +64,23 @@ fn own(c: &Command<'_>) -> Plain
 }
 
 /// Carries a command out, or refuses it by the first failed rule.
-fn react(session: Session, access: &[u8], c: &Command<'_>) -> Reaction
-    requires { length access.now ≤ MAX_FILE }
-    ensures { (kept : OpeningRecord) → kept.card_access ≡ access.now → Answers kept (state session) (as_heard (plain_command c.now)) result }
+fn react<E: Eeprom>(session: Session, store: &Store, cells: &E, c: &Command<'_>) -> Reaction
+    requires { stored.Fits store.now (E.device cells.now) (E.cells cells.now) }
+    ensures { Answers (held (E.cells cells.now)) (state session) (as_heard (plain_command c.now)) result }
 {
     match kind_of(c) {
         Ok(Kind::SelectApplication) => select_application(session, c),
         Ok(Kind::SelectMasterFile) => select_master_file(session, c),
         Ok(Kind::SelectFile) => select_file(session, c),
-        Ok(Kind::ReadBinary) => read_binary(session, access, c),
+        Ok(Kind::ReadBinary) => read_binary(session, store, cells, c),
         Err(refusal) => refused(refusal, session),
     }
 }
 
 /// Hears the bytes of a command and answers them.
-fn respond(session: Session, access: &[u8], bytes: &[u8]) -> Response
-    requires { length access.now ≤ MAX_FILE }
-    ensures { (kept : OpeningRecord) → kept.card_access ≡ access.now → Responds kept (state session) bytes.now result }
+fn respond<E: Eeprom>(session: Session, store: &Store, cells: &E, bytes: &[u8]) -> Response
+    requires { stored.Fits store.now (E.device cells.now) (E.cells cells.now) }
+    ensures { Responds (held (E.cells cells.now)) (state session) bytes.now result }
 {
     let Ok(c) = read_command(bytes) else {
         return not_heard(session);
@@ -93,7 +90,7 @@ fn respond(session: Session, access: &[u8], bytes: &[u8]) -> Response
     }
     Response {
         plain: Some(own(&c)),
-        reaction: react(session, access, &c),
+        reaction: react(session, store, cells, &c),
     }
 }
 
@@ -101,7 +98,7 @@ fn respond(session: Session, access: &[u8], bytes: &[u8]) -> Response
 #[tactic(auto, unfolding(eid_model::specs::Answers::outcome))]
 fn not_heard(session: Session) -> Response
     ensures plain { result.plain ≡ None }
-    ensures answers { (kept : OpeningRecord) → Answers kept (state session) NoCommand result.reaction }
+    ensures answers { (kept : FullRecord) → Answers kept (state session) NoCommand result.reaction }
 {
     Response {
         plain: None,
@@ -109,56 +106,85 @@ fn not_heard(session: Session) -> Response
     }
 }
 
-/// A chip of this stage: EF.CardAccess, and a session where it has power.
+/// A chip. Where it has power it has the store that it mounted and a session.
 #[derive(Debug, Drop)]
 pub struct Chip {
-    access: ArrayVec<u8, MAX_FILE>,
-    life: Option<Session>,
-}
-
-impl Model for Chip {
-    ghost use Rattle.std.specs.Prelude.{option_map};
-    ghost use Rattle.eid_chip.specs.Steps.{state};
-    ghost use Rattle.eid_chip.specs.ChipView.{ChipView};
-
-    ghost Value = { ChipView };
-
-    ghost view = { λ c. record { access = c.access.items; life = option_map state c.life } };
+    life: Option<Running>,
 }
 
 impl Chip {
-    /// A chip with this EF.CardAccess and without power.
-    pub fn new(access: ArrayVec<u8, MAX_FILE>) -> Chip
-        ensures { result ≡ record { access = access.items; life = None } }
+    ghost use Rattle.eid_chip.specs.Fits.{Follows, IsSound, handled, found, is_silent, is_off};
+
+    /// A chip without power.
+    pub fn new() -> Chip
+        ensures { result.life ≡ None }
     {
-        Chip { access, life: None }
+        Chip { life: None }
     }
 
-    /// Gives the chip power. It begins without a session, and answers the number of commits that it found.
-    pub fn power_on(&mut self) -> u32
-        ensures { Follows self.old self.new (silent (PoweredOn (Some result))) }
+    /// Gives the device power and mounts the record that its cells stand for. The chip begins without a
+    /// session, and answers the number of commits that it found.
+    ///
+    /// # Errors
+    /// `BadImage` exactly where the cells stand for no record; `Cut` only where the device's count of
+    /// cuts rose. The chip is off then.
+    pub fn power_on<E: Eeprom>(&mut self, cells: &mut E) -> Result<u32, MountError>
+        ensures follows { result ≢ Err MountError.BadImage → Follows self.old (E.device cells.old) (E.cells cells.old) self.new (E.device cells.new) (E.cells cells.new) (silent (PoweredOn (found result))) }
+        ensures sound { IsSound self.new (E.device cells.new) (E.cells cells.new) }
+        ensures bad_image { (result ≡ Err MountError.BadImage) ↔ (stands (E.cells cells.old) ≡ None) }
+        ensures same { stands (E.cells cells.new) ≡ stands (E.cells cells.old) }
+        ensures layout { slice_index (E.cells cells.new) 0 ≡ slice_index (E.cells cells.old) 0 }
+        ensures cut { result ≡ Err MountError.Cut → WasCut (record (E.device cells.old) { has_power = true }) (E.device cells.new) }
+        // Layout 1 is mounted without a write.
+        ensures no_write { slice_index (E.cells cells.old) 0 ≡ 1 → E.cells cells.new ≡ E.cells cells.old }
+        ensures no_cut { slice_index (E.cells cells.old) 0 ≡ 1 → result ≢ Err MountError.Cut }
     {
-        self.life = Some(Session::new());
-        0
+        cells.power(true);
+        match Store::mount(cells) {
+            Ok(store) => {
+                let number = store.kept().number;
+                self.life = Some(Running {
+                    store,
+                    session: Session::new(),
+                });
+                Ok(number)
+            }
+            Err(error) => {
+                self.life = None;
+                Err(error)
+            }
+        }
     }
 
-    /// Takes power away.
-    pub fn power_off(&mut self)
-        ensures { Follows self.old self.new (silent PoweredOff) }
+    /// Takes power away from the device.
+    pub fn power_off<E: Eeprom>(&mut self, cells: &mut E)
+        ensures follows { Follows self.old (E.device cells.old) (E.cells cells.old) self.new (E.device cells.new) (E.cells cells.new) (silent PoweredOff) }
+        ensures sound { IsSound self.new (E.device cells.new) (E.cells cells.new) }
+        ensures same { E.cells cells.new ≡ E.cells cells.old }
+        ensures device { E.device cells.new ≡ record (E.device cells.old) { has_power = false } }
     {
+        cells.power(false);
         self.life = None;
     }
 
     /// Handles the bytes of a command: answers them by the first failed rule, or carries them out.
-    pub fn handle(&mut self, bytes: &[u8]) -> Handled
-        ensures follows { Follows self.old self.new (handled bytes.now result) }
-        ensures silent { is_silent result ≡ is_none self.old.life }
+    /// `Silent` comes exactly where the chip is off.
+    pub fn handle<E: Eeprom>(&mut self, bytes: &[u8], cells: &mut E) -> Handled
+        requires { IsSound self.old (E.device cells.old) (E.cells cells.old) }
+        ensures follows { Follows self.old (E.device cells.old) (E.cells cells.old) self.new (E.device cells.new) (E.cells cells.new) (handled bytes.now result) }
+        ensures sound { IsSound self.new (E.device cells.new) (E.cells cells.new) }
+        ensures silent { is_silent result ≡ is_off self.old }
+        ensures same { E.cells cells.new ≡ E.cells cells.old }
     {
-        let Some(session) = self.life else {
+        let Some(running) = mem::replace(&mut self.life, None) else {
             return Handled::Silent;
         };
-        let response = respond(session, self.access.as_slice(), bytes);
-        self.life = Some(response.reaction.session);
+        let Running { store, session } = running;
+        let response = respond(session, &store, cells, bytes);
+        self.life = Some(Running {
+            store,
+            session: response.reaction.session,
+        });
         let mut sent = ArrayVec::new();
         write_reply(&response.reaction.reply, &mut sent).unwrap();
         Handled::Answered {

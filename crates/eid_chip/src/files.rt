@@ -1,13 +1,27 @@
 //! Files by their identifiers (BSI TR-03110-4), and ranges of their bytes.
-ghost use Rattle.std.specs.Prelude.{◌≡◌, ◌≤◌, ◌==◌, ◌||◌, not, option_map, length};
+ghost use Rattle.std.specs.Prelude.{◌≡◌, ◌+◌, ◌≤◌, ◌==◌, ◌&&◌, ◌||◌, [], not, drop, nat_lt, option_map, unwrap_or, length, IfSome, IsSomeAnd, slice_index_or, slice_range, if◌then◌else◌};
 ghost use Rattle.eid_apdu.specs.Answer.{plain_reply};
 ghost use Rattle.eid_model.specs.Kinds as kinds;
 ghost use Rattle.eid_model.specs.Answers.{read_reply};
+ghost use Rattle.eid_record.specs.View.{record_view};
+ghost use Rattle.eid_store.specs.Store as stored;
+ghost use Rattle.eid_chip.specs.Held.{held_file};
 
-use crate::session::{CARD_ACCESS, CARD_SECURITY, FileNo};
 use arrayvec::ArrayVec;
-use eid_apdu::Reply;
+use eid_apdu::{MAX_CONTENT, Reply};
 use eid_base::Status;
+use eid_cells::Eeprom;
+use eid_record::{FileNo, Record};
+use eid_store::Store;
+
+/// How many bytes a file has at most.
+pub const MAX_FILE: usize = 2048;
+
+/// EF.CardAccess (BSI TR-03110-3).
+pub const CARD_ACCESS: FileNo = FileNo(0);
+
+/// EF.CardSecurity (BSI TR-03110-3).
+pub const CARD_SECURITY: FileNo = FileNo(1);
 
 /// The file of a short identifier: 1C, 1D, or 1 to 21 for a data group.
 pub fn file_of_short(short: u8) -> Option<FileNo>
@@ -41,19 +55,86 @@ fn is_exact(ne: u32) -> bool
     ne != 256 && ne != 65_536
 }
 
-/// What READ BINARY answers, of the bytes from its offset on (ISO/IEC 7816-4): as many as are there of
-/// those expected, 6282 where they are fewer than were asked for exactly.
-pub fn read_answer(left: &[u8], ne: u32) -> Reply
-    requires { length left.now ≤ 2048 }
-    ensures { plain_reply result ≡ read_reply left.now ne }
+/// The length of a file that a record keeps.
+fn kept_length(kept: &Record, file: FileNo) -> Option<u16>
+    ensures { result ≡ slice_index_or (record_view kept.now).lengths file.0 None }
 {
-    let count = left.len().min(ne as usize);
+    match kept.lengths.get(usize::from(file.0)) {
+        Some(length) => *length,
+        None => None,
+    }
+}
+
+/// How many bytes a file has, where it is there.
+pub fn file_length<E: Eeprom>(store: &Store, cells: &E, file: FileNo) -> Option<u16>
+    requires { stored.Fits store.now (E.device cells.now) (E.cells cells.now) }
+    ensures length { option_map (λ bytes. length bytes) (held_file (E.cells cells.now) file.0) ≡ result }
+    ensures small { IfSome result (λ n. n ≤ 2048) }
+{
+    let _ = cells;
+    kept_length(store.kept(), file)
+}
+
+/// Bytes of a file from an offset on, so many of them.
+fn read_part<E: Eeprom>(store: &Store, cells: &E, file: FileNo, offset: u16, into: &mut [u8])
+    requires fits { stored.Fits store.now (E.device cells.now) (E.cells cells.now) }
+    requires there { IsSomeAnd (held_file (E.cells cells.now) file.0) (λ bytes. offset + length into.old ≤ length bytes) }
+    ensures { into.new ≡ slice_range (unwrap_or (held_file (E.cells cells.now) file.0) []) offset (offset + length into.old) }
+{
+    store.read_file(cells, file, offset, into);
+}
+
+/// Bytes of a file from an offset on, as the content of a reply.
+fn content_of<E: Eeprom>(
+    store: &Store,
+    cells: &E,
+    file: FileNo,
+    offset: u16,
+    count: usize,
+) -> ArrayVec<u8, MAX_CONTENT>
+    requires fits { stored.Fits store.now (E.device cells.now) (E.cells cells.now) }
+    requires there { IsSomeAnd (held_file (E.cells cells.now) file.0) (λ bytes. offset + count ≤ length bytes) }
+    requires small { count ≤ 2048 }
+    ensures { result.items ≡ slice_range (unwrap_or (held_file (E.cells cells.now) file.0) []) offset (offset + count) }
+{
+    let mut data = [0u8; MAX_FILE];
+    let part = &mut data[..count];
+    read_part(store, cells, file, offset, part);
     let mut content = ArrayVec::new();
-    content.try_extend_from_slice(&left[..count]).unwrap();
-    let status = if left.len() < ne as usize && is_exact(ne) {
+    content.try_extend_from_slice(part).unwrap();
+    content
+}
+
+/// The status of a READ BINARY that found so many bytes: 6282 where they are fewer than were asked for
+/// exactly.
+fn read_status(left: u16, ne: u32) -> Status
+    ensures { result.0 ≡ (if nat_lt left ne && not (ne == 256 || ne == 65536) then 0x6282 else 0x9000) }
+{
+    if u32::from(left) < ne && is_exact(ne) {
         Status(0x6282)
     } else {
         Status(0x9000)
-    };
-    Reply { content, status }
+    }
+}
+
+/// What READ BINARY answers, where so many bytes of the file are left from its offset on
+/// (ISO/IEC 7816-4): as many as are there of those expected.
+pub fn read_answer<E: Eeprom>(
+    store: &Store,
+    cells: &E,
+    file: FileNo,
+    offset: u16,
+    left: u16,
+    ne: u32,
+) -> Reply
+    requires fits { stored.Fits store.now (E.device cells.now) (E.cells cells.now) }
+    requires there { option_map (λ bytes. length bytes) (held_file (E.cells cells.now) file.0) ≡ Some (offset + left) }
+    requires small { left ≤ 2048 }
+    ensures { plain_reply result ≡ read_reply (drop offset (unwrap_or (held_file (E.cells cells.now) file.0) [])) ne }
+{
+    let count = usize::from(left).min(ne as usize);
+    Reply {
+        content: content_of(store, cells, file, offset, count),
+        status: read_status(left, ne),
+    }
 }

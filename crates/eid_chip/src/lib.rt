@@ -6,7 +6,8 @@ mod files;
 mod naming;
 mod reaction;
 mod refusal;
+mod running;
 mod select;
 mod session;
 
-pub use chip::{Chip, Handled, MAX_FILE};
+pub use chip::{Chip, Handled};

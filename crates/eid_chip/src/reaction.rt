@@ -8,6 +8,7 @@ use crate::session::Session;
 use arrayvec::ArrayVec;
 use eid_apdu::Reply;
 use eid_base::{Rule, Status};
+use eid_model::Plain;
 
 /// The first failed rule, or 0, the answer, and the session after the step.
 #[derive(Debug, Drop)]
@@ -47,4 +48,11 @@ pub fn carried_out(session: Session) -> Reaction
         reply: status_reply(Status(0x9000)),
         session,
     }
+}
+
+/// What was heard, and how it ended.
+#[derive(Debug, Drop)]
+pub struct Response {
+    pub plain: Option<Plain>,
+    pub reaction: Reaction,
 }

@@ -48,6 +48,11 @@ pub const NO_PACE: Refusal = Refusal {
     rule: Rule(20),
     status: Status(0x6982),
 };
+/// The file is absent.
+pub const NO_FILE: Refusal = Refusal {
+    rule: Rule(37),
+    status: Status(0x6A82),
+};
 /// The offset is behind the end of the file.
 pub const OFFSET: Refusal = Refusal {
     rule: Rule(38),

@@ -1,25 +1,30 @@
 //! SELECT and READ BINARY (ISO/IEC 7816-4).
 ghost use Rattle.std.specs.Prelude.{◌≡◌, ◌≤◌, ◌-◌, length, true, false, option_map, if◌then◌else◌};
 ghost use Rattle.eid_apdu.specs.Command.{plain_command};
-ghost use Rattle.eid_model.specs.Moments.{OpeningRecord};
+ghost use Rattle.eid_record.specs.Plain.{FullRecord};
+ghost use Rattle.eid_store.specs.Store as stored;
 ghost use Rattle.eid_model.specs.Kinds.{is_by_short, file_of_short};
 ghost use Rattle.eid_model.specs.Rules.{file_meant, offset_meant};
+ghost use Rattle.eid_chip.specs.Held.{held};
 ghost use Rattle.eid_chip.specs.Steps.{Told, state, known};
 
-use crate::files::{self, file_of_id, read_answer};
+use crate::files::{self, CARD_ACCESS, file_of_id, read_answer};
 use crate::reaction::{Reaction, carried_out, refused};
-use crate::refusal::{BODY_FORM, NO_CURRENT_FILE, NO_PACE, NOT_NAMED, OFFSET};
-use crate::session::{CARD_ACCESS, FileNo, Session};
+use crate::refusal::{BODY_FORM, NO_CURRENT_FILE, NO_FILE, NO_PACE, NOT_NAMED, OFFSET};
+use crate::session::Session;
 use eid_apdu::Command;
 use eid_base::Rule;
+use eid_cells::Eeprom;
 use eid_model::Kind;
+use eid_record::FileNo;
+use eid_store::Store;
 
 /// The identifier of the eID application (BSI TR-03110-4).
 const APPLICATION_ID: [u8; 9] = [0xe8, 0x07, 0x04, 0x00, 0x7f, 0x00, 0x07, 0x03, 0x02];
 
 /// SELECT of the application.
 pub fn select_application(session: Session, c: &Command<'_>) -> Reaction
-    ensures { (kept : OpeningRecord) → Told Kind.SelectApplication kept (state session) (plain_command c.now) result }
+    ensures { (kept : FullRecord) → Told Kind.SelectApplication kept (state session) (plain_command c.now) result }
 {
     if c.body.is_empty() || c.body.len() > 16 {
         return refused(BODY_FORM, session);
@@ -35,7 +40,7 @@ pub fn select_application(session: Session, c: &Command<'_>) -> Reaction
 
 /// SELECT of the master file.
 pub fn select_master_file(session: Session, c: &Command<'_>) -> Reaction
-    ensures { (kept : OpeningRecord) → Told Kind.SelectMasterFile kept (state session) (plain_command c.now) result }
+    ensures { (kept : FullRecord) → Told Kind.SelectMasterFile kept (state session) (plain_command c.now) result }
 {
     if !c.body.is_empty() && c.body != [0x3f, 0x00].as_slice() {
         return refused(BODY_FORM, session);
@@ -48,7 +53,7 @@ pub fn select_master_file(session: Session, c: &Command<'_>) -> Reaction
 
 /// SELECT of a file. It never tells whether the file is there.
 pub fn select_file(session: Session, c: &Command<'_>) -> Reaction
-    ensures { (kept : OpeningRecord) → Told Kind.SelectFile kept (state session) (plain_command c.now) result }
+    ensures { (kept : FullRecord) → Told Kind.SelectFile kept (state session) (plain_command c.now) result }
 {
     let [high, low] = c.body else {
         return refused(BODY_FORM, session);
@@ -65,7 +70,7 @@ pub fn select_file(session: Session, c: &Command<'_>) -> Reaction
 /// The file that READ BINARY means: of its short identifier, or the current one.
 #[tactic(auto, unfolding(eid_model::specs::Rules::file_meant))]
 fn meant_file(session: &Session, c: &Command<'_>) -> Option<FileNo>
-    ensures file { (kept : OpeningRecord) → file_meant (known Kind.ReadBinary kept (state session.now) (plain_command c.now)) ≡ option_map (λ file. file.0) result }
+    ensures file { (kept : FullRecord) → file_meant (known Kind.ReadBinary kept (state session.now) (plain_command c.now)) ≡ option_map (λ file. file.0) result }
     ensures current { is_by_short (plain_command c.now) ≡ false → result ≡ session.now.current }
     ensures named { is_by_short (plain_command c.now) ≡ true → file_of_short (c.now.p1 - 0x80) ≡ option_map (λ file. file.0) result }
 {
@@ -77,13 +82,13 @@ fn meant_file(session: &Session, c: &Command<'_>) -> Option<FileNo>
 }
 
 /// The offset that READ BINARY begins at: P2 behind a short identifier, else P1 and P2.
-fn meant_offset(c: &Command<'_>) -> usize
+fn meant_offset(c: &Command<'_>) -> u16
     ensures { result ≡ offset_meant (plain_command c.now) }
 {
     if c.p1 < 0x80 {
-        usize::from(c.p1) * 256 + usize::from(c.p2)
+        u16::from(c.p1) * 256 + u16::from(c.p2)
     } else {
-        usize::from(c.p2)
+        u16::from(c.p2)
     }
 }
 
@@ -102,9 +107,14 @@ fn after_read(session: Session, c: &Command<'_>, file: FileNo) -> Session
 }
 
 /// READ BINARY. No file but EF.CardAccess is readable without PACE.
-pub fn read_binary(session: Session, access: &[u8], c: &Command<'_>) -> Reaction
-    requires { length access.now ≤ 2048 }
-    ensures { (kept : OpeningRecord) → kept.card_access ≡ access.now → Told Kind.ReadBinary kept (state session) (plain_command c.now) result }
+pub fn read_binary<E: Eeprom>(
+    session: Session,
+    store: &Store,
+    cells: &E,
+    c: &Command<'_>,
+) -> Reaction
+    requires { stored.Fits store.now (E.device cells.now) (E.cells cells.now) }
+    ensures { Told Kind.ReadBinary (held (E.cells cells.now)) (state session) (plain_command c.now) result }
 {
     if !c.body.is_empty() {
         return refused(BODY_FORM, session);
@@ -118,13 +128,16 @@ pub fn read_binary(session: Session, access: &[u8], c: &Command<'_>) -> Reaction
     if file != CARD_ACCESS {
         return refused(NO_PACE, session);
     }
+    let Some(length) = files::file_length(store, cells, file) else {
+        return refused(NO_FILE, session);
+    };
     let offset = meant_offset(c);
-    if offset > access.len() {
+    if offset > length {
         return refused(OFFSET, session);
     }
     Reaction {
         rule: Rule(0),
-        reply: read_answer(&access[offset..], c.ne),
+        reply: read_answer(store, cells, file, offset, length - offset, c.ne),
         session: after_read(session, c, file),
     }
 }

@@ -1,15 +1,7 @@
 //! What a session leaves from one command to the next.
 ghost use Rattle.std.specs.Prelude.{◌≡◌, false, None};
 
-/// A file by number: 0 is EF.CardAccess, 1 is EF.CardSecurity, n + 1 is data group n.
-#[derive(Clone, Copy, Debug, PartialEq, Eq)]
-pub struct FileNo(pub u8);
-
-/// EF.CardAccess (BSI TR-03110-3).
-pub const CARD_ACCESS: FileNo = FileNo(0);
-
-/// EF.CardSecurity (BSI TR-03110-3).
-pub const CARD_SECURITY: FileNo = FileNo(1);
+use eid_record::FileNo;
 
 /// The session of a chip with power.
 #[derive(Clone, Copy, Debug)]

@@ -1,8 +1,8 @@
 -- What came determines the journal.
-use Rattle.std.proofs.Common.{◌≡◌, ℕ, ◌+◌, ◌≤◌, Bool, true, false, List, [], ◌∷◌, ◌++◌, length, Option, Some, None, refl, sym, ap, ◌∙◌, subst, arith, length-append}
-use Rattle.eid_apdu.specs.Command.{PlainCommand, Spells}
+use Rattle.std.proofs.Common.{◌≡◌, ℕ, Bool, true, false, List, [], ◌∷◌, ◌++◌, length, Some, None, refl, sym, ap, ◌∙◌, subst, arith, length-append}
 use Rattle.eid_apdu.proofs.OneCommand.{spells_one}
-use Rattle.eid_model.specs.Moments.{Event, PoweredOn, PoweredOff, Received, PlainMoment, OpeningRecord, PlainLine, OnLine, OffLine, ApduLine, line_of, on, live, AreSteady, is_steady, script}
+use Rattle.eid_record.specs.Plain.{FullRecord}
+use Rattle.eid_model.specs.Moments.{Event, PoweredOn, PoweredOff, Received, PlainMoment, PlainLine, line_of, on, AreSteady, is_steady, script}
 use Rattle.eid_model.specs.Rules.{Heard, NoCommand, Command}
 use Rattle.eid_model.specs.Legal.{IsHeard, IsAnswered, IsHandled, IsLegalFor, IsLegalMoment, AreLegal, answered, silent, outcome_after}
 
@@ -28,17 +28,17 @@ same_heard bytes NoCommand (Command d) p q = absurd (p d q.0 q.1)
 same_heard bytes (Command c) NoCommand p q = absurd (q c p.0 p.1)
 same_heard bytes (Command c) (Command d) p q = ap Command (spells_one bytes c d p.0 q.0)
 
-same_answered : (opening : OpeningRecord) (before : List PlainMoment) (bytes : List ℕ) (m n : PlainMoment) → IsAnswered opening before bytes m → IsAnswered opening before bytes n → m ≡ n
+same_answered : (opening : FullRecord) (before : List PlainMoment) (bytes : List ℕ) (m n : PlainMoment) → IsAnswered opening before bytes m → IsAnswered opening before bytes n → m ≡ n
 same_answered opening before bytes m n p q =
     let heard = same_heard bytes p.heard q.heard p.hears q.hears in
     p.moment ∙ ap (λ (h : Heard). answered bytes h (outcome_after opening before h)) heard ∙ sym q.moment
 
-same_handled : (power : Bool) (opening : OpeningRecord) (before : List PlainMoment) (bytes : List ℕ) (m n : PlainMoment) → on before ≡ power → IsHandled opening before bytes m → IsHandled opening before bytes n → m ≡ n
+same_handled : (power : Bool) (opening : FullRecord) (before : List PlainMoment) (bytes : List ℕ) (m n : PlainMoment) → on before ≡ power → IsHandled opening before bytes m → IsHandled opening before bytes n → m ≡ n
 same_handled true opening before bytes m n power p q = same_answered opening before bytes m n (p.powered power) (q.powered power)
 same_handled false opening before bytes m n power p q = p.unpowered power ∙ sym (q.unpowered power)
 
 -- what came, and the moments before, determine the moment
-same_for : (e f : Event) (opening : OpeningRecord) (before : List PlainMoment) (m n : PlainMoment) → IsLegalFor e opening before m → IsLegalFor f opening before n → is_steady e ≡ true → is_steady f ≡ true → line_of e ≡ line_of f → m ≡ n
+same_for : (e f : Event) (opening : FullRecord) (before : List PlainMoment) (m n : PlainMoment) → IsLegalFor e opening before m → IsLegalFor f opening before n → is_steady e ≡ true → is_steady f ≡ true → line_of e ≡ line_of f → m ≡ n
 same_for (PoweredOn None) f opening before m n p q e_steady f_steady lines = absurd (cc)
 same_for (PoweredOn (Some x)) (PoweredOn None) opening before m n p q e_steady f_steady lines = absurd (cc)
 same_for (PoweredOn (Some x)) (PoweredOn (Some y)) opening before m n p q e_steady f_steady lines =
@@ -56,7 +56,7 @@ same_for (Received bytes) (Received others) opening before m n p q e_steady f_st
     same_handled (on before) opening before bytes m n refl p (rw same at q)
 
 -- one journal for what came
-pub one_journal : (opening : OpeningRecord) (one other : List PlainMoment) → AreLegal opening one → AreLegal opening other → AreSteady one → AreSteady other → script one ≡ script other → one ≡ other
+pub one_journal : (opening : FullRecord) (one other : List PlainMoment) → AreLegal opening one → AreLegal opening other → AreSteady one → AreSteady other → script one ≡ script other → one ≡ other
 one_journal opening [] [] p q s t lines = refl
 one_journal opening [] (n ∷ b) p q s t lines =
     let lens : length {A = PlainLine} [] ≡ length (script b ++ line_of n.input ∷ []) = ap length lines in

@@ -1,12 +1,11 @@
 -- How a command is answered (ISO/IEC 7816-4, BSI TR-03110-3).
 use Rattle.std.specs.Prelude.{ℕ, ◌==◌, ◌&&◌, ◌||◌, not, nat_lt, List, [], ◌++◌, length, take, drop, Option, Some, None, unwrap_or, if◌then◌else◌}
-use Rattle.std.specs.Option.{option_or}
 use Rattle.eid_apdu.specs.Command.{PlainCommand}
 use Rattle.eid_apdu.specs.Answer.{PlainReply}
+use Rattle.eid_record.specs.Plain.{FullRecord}
 use Rattle.eid_model.specs.declared.kind.Kind.{Kind}
 use Rattle.eid_model.specs.declared.kind.Kind.TheVariants.{SelectApplication, SelectMasterFile, SelectFile, ReadBinary}
 use Rattle.eid_model.specs.Kinds.{kind_named}
-use Rattle.eid_model.specs.Moments.{OpeningRecord}
 use Rattle.eid_model.specs.Sessions.{State, advanced}
 use Rattle.eid_model.specs.Rules.{Heard, NoCommand, Command, Situation, RuleRow, hearing_rules, naming_rules, kind_rules, first_failed, file_of, file_meant, offset_meant}
 
@@ -48,7 +47,7 @@ abbrev pub kind_heard : State → Heard → Option Kind
 kind_heard state NoCommand = None
 kind_heard state (Command c) = kind_named state.next c
 
-abbrev pub situation : OpeningRecord → State → Heard → Situation
+abbrev pub situation : FullRecord → State → Heard → Situation
 situation kept state heard =
     record { heard = heard; command = command_of heard; kind = kind_heard state heard; kept = kept; state = state }
 

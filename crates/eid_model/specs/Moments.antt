@@ -1,6 +1,6 @@
 -- Moments and journals. A journal is a list of moments with the newest first: m ∷ before is the
 -- moment m, and those before it. This project's own.
-use Rattle.std.specs.Prelude.{◌≡◌, ℕ, Bool, true, false, ◌==◌, ◌&&◌, ◌||◌, not, List, [], ◌∷◌, ◌++◌, Option, Some, None, is_some, if◌then◌else◌}
+use Rattle.std.specs.Prelude.{◌≡◌, ℕ, Bool, true, false, ◌==◌, ◌&&◌, ◌||◌, not, List, [], ◌∷◌, ◌++◌, Option, is_some, if◌then◌else◌}
 use Rattle.eid_apdu.specs.Command.{PlainCommand}
 use Rattle.eid_apdu.specs.Answer.{PlainReply}
 
@@ -20,11 +20,6 @@ pub record PlainMoment : Type 0 where
   pub rule : ℕ
   pub answer : Option PlainReply
   pub sent : Option (List ℕ)
-
--- The record that the journal opens with. This stage has EF.CardAccess alone.
-pub record OpeningRecord : Type 0 where
-  pub number : ℕ
-  pub card_access : List ℕ
 
 -- a chip that had power, and answered or not, has power after this
 abbrev pub keeps_power : Event → Bool → Bool

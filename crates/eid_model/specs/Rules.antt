@@ -1,14 +1,14 @@
 -- The rules: a command is answered by the first one, in the order of their numbers, that concerns its
 -- kind and does not hold. The numbers and their order are this project's own; the statuses are those
 -- of ISO/IEC 7816-4.
-use Rattle.std.specs.Prelude.{ℕ, ◌+◌, ◌*◌, ◌-◌, Bool, true, false, ◌==◌, ◌&&◌, ◌||◌, not, nat_lt, nat_le, List, [], ◌∷◌, length, Option, Some, None, is_some, is_none, unwrap_or, if◌then◌else◌}
+use Rattle.std.specs.Prelude.{ℕ, ◌+◌, ◌*◌, ◌-◌, Bool, true, false, ◌==◌, ◌&&◌, ◌||◌, not, nat_le, List, [], ◌∷◌, length, Option, Some, None, is_some, unwrap_or, slice_index_or, if◌then◌else◌}
 use Rattle.std.specs.List.{list_any}
 use Rattle.std.specs.Str.{bytes_eq}
 use Rattle.eid_apdu.specs.Command.{PlainCommand}
+use Rattle.eid_record.specs.Plain.{FullRecord}
 use Rattle.eid_model.specs.declared.kind.Kind.{Kind}
 use Rattle.eid_model.specs.declared.kind.Kind.TheVariants.{SelectApplication, SelectMasterFile, SelectFile, ReadBinary}
 use Rattle.eid_model.specs.Kinds.{same_kind, kinds, has_instruction, has_parameters, is_by_short, file_of_short, file_of_id, card_access, application_id}
-use Rattle.eid_model.specs.Moments.{OpeningRecord}
 use Rattle.eid_model.specs.Sessions.{State, number_of_two}
 
 -- what the bytes received say: no command with a body of at most 2,200 bytes, or this one
@@ -26,7 +26,7 @@ pub record Situation : Type 0 where
   pub heard : Heard
   pub command : PlainCommand
   pub kind : Option Kind
-  pub kept : OpeningRecord
+  pub kept : FullRecord
   pub state : State
 
 -- A rule: its number, its status, the kinds that it concerns ([] is all), and where it holds.
@@ -68,9 +68,9 @@ is_named (Some SelectFile) s = is_some (file_of_id (number_of_two s.command.body
 is_named (Some ReadBinary) s = not (is_by_short s.command) || is_some (file_meant s)
 
 -- the file's bytes, where it is present
-abbrev pub file_of : OpeningRecord → Option ℕ → Option (List ℕ)
+abbrev pub file_of : FullRecord → Option ℕ → Option (List ℕ)
 file_of kept None = None
-file_of kept (Some file) = if file == card_access then Some kept.card_access else None
+file_of kept (Some file) = slice_index_or kept.files file None
 
 abbrev pub is_heard : Heard → Bool
 is_heard NoCommand = false

@@ -1,5 +1,5 @@
 -- The moments of the code as plain ones.
-use Rattle.std.specs.Prelude.{ℕ, Option, option_map}
+use Rattle.std.specs.Prelude.{option_map}
 use Rattle.eid_apdu.specs.Command.{PlainCommand}
 use Rattle.eid_apdu.specs.Answer.{plain_reply}
 use Rattle.eid_model.specs.declared.moment.Input.{Input}

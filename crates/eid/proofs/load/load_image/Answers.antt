@@ -1,11 +1,13 @@
 -- What the file holds, by what was read of it.
-use Rattle.eid_base.specs.Faults.{Rose}
 use Rattle.eid.specs.Works.{image_in}
-use Rattle.eid.proofs.Inputs.{whole_image, refused_image, image_long, image_absent, failed_read}
+use Rattle.eid.proofs.Inputs.{image_stands, image_held, refused_image, image_long, image_absent, failed_read}
 use Rattle.eid.proofs.load.load_image.Goals as goal
 
-pub returns-in-Whole-clause-image : goal.returns-in-Whole-clause-image
-returns-in-Whole-clause-image g c = whole_image c.image_of.result _ _ c.in-Whole.bytes.items c.in-Whole.ensures.read.1 c.image_of.ensures.access
+pub returns-in-Whole-clause-stands : goal.returns-in-Whole-clause-stands
+returns-in-Whole-clause-stands g c = image_stands c.image_of.result c.in-Whole.bytes c.image_of.ensures.image
+
+pub returns-in-Whole-clause-held : goal.returns-in-Whole-clause-held
+returns-in-Whole-clause-held g c = image_held c.image_of.result _ _ c.in-Whole.bytes c.in-Whole.ensures.read.1 c.image_of.ensures.image
 
 pub returns-in-Whole-clause-refused : goal.returns-in-Whole-clause-refused
 returns-in-Whole-clause-refused g c = refused_image c.image_of.result _ _ c.in-Whole.bytes.items _ c.in-Whole.ensures.read.1 c.image_of.ensures.refused

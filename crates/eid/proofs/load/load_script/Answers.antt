@@ -1,5 +1,4 @@
 -- What the file holds, by what was read of it.
-use Rattle.eid_base.specs.Faults.{Rose}
 use Rattle.eid.specs.Works.{script_in}
 use Rattle.eid.proofs.Inputs.{whole_script, refused_script, script_long, script_absent, failed_read}
 use Rattle.eid.proofs.load.load_script.Goals as goal

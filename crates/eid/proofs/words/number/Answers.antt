@@ -1,7 +1,6 @@
 -- A decimal number is parsed as itself.
-use Rattle.std.proofs.Common.{◌≡◌, Bool, true, ap, sym, ◌∙◌, rules}
+use Rattle.std.proofs.Common.{◌≡◌, true, ap, sym, ◌∙◌, rules}
 use Rattle.std.specs.Prelude.{decimal, string_bytes}
-use Rattle.std.specs.Str.{bytes_eq}
 use Rattle.std.proofs.lemmas.Fmt.{parse-decimal}
 use Rattle.std.proofs.lemmas.Slice.Eq.{bytes_eq-Decides}
 use Rattle.eid.proofs.words.number.Goals as goal

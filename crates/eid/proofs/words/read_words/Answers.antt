@@ -1,10 +1,6 @@
 -- The four words, each by itself.
-use Rattle.std.proofs.Common.{◌≡◌, Bool, true, false, not, List, ◌∷◌, [], ℕ, map, sym, ap, ◌∙◌, refl}
-use Rattle.std.specs.Prelude.{String, string_bytes, codes}
-use Rattle.std.specs.declared.alloc.Global.{Global}
-use Rattle.std.specs.Str.{bytes_eq}
-use Rattle.std.proofs.lemmas.Slice.Eq.{bytes_eq-Decides}
-use Rattle.eid.specs.Commands.{Says}
+use Rattle.std.proofs.Common.{◌≡◌, sym, ◌∙◌}
+use Rattle.std.specs.Prelude.{string_bytes, codes}
 use Rattle.eid.proofs.FourWords.{four, last_is_number, says_run}
 use Rattle.eid.proofs.words.read_words.Goals as goal
 

@@ -1,0 +1,113 @@
+-- What a line made, and runs with one line more.
+use Rattle.std.proofs.Common.{◌≡◌, ◌≢◌, ℕ, ◌+◌, ◌<◌, true, IsTrue, List, [], ◌∷◌, ◌++◌, length, take, drop, get_or, map, Option, Some, None, Result, Ok, Err, refl, sym, ap, ◌∙◌, subst, append_assoc, append-nil, inl, inr}
+use Rattle.std.specs.Prelude.{IsSome, is_some, slice_index}
+use Rattle.std.proofs.lemmas.List.{take_more, map-append, take-append-drop}
+use Rattle.eid_base.specs.Seen.{SinkSeen, Grew}
+use Rattle.eid_cells.specs.Device.{Device}
+use Rattle.eid_record.specs.Plain.{FullRecord}
+use Rattle.eid_store.specs.declared.durable.MountError.{MountError}
+use Rattle.eid_store.specs.declared.durable.MountError.TheVariants.{Cut, BadImage}
+use Rattle.eid_store.specs.Stands.{stands}
+use Rattle.eid_model.specs.Moments.{PlainMoment, is_steady}
+use Rattle.eid_model.specs.Trace.{text, trace}
+use Rattle.eid_chip.specs.declared.running.Running.{Running}
+use Rattle.eid_chip.specs.declared.chip.Chip.{Chip}
+use Rattle.eid_chip.specs.declared.chip.Handled.{Handled}
+use Rattle.eid_chip.specs.declared.chip.Handled.TheVariants.{Silent, Answered}
+use Rattle.eid_chip.specs.Fits.{Fits, Follows, IsSound, IsSoundLife, handled, found}
+use Rattle.eid_script.specs.declared.script.Line.{Line}
+use Rattle.eid_script.specs.Scripts.{ScriptLine, ApduLine, plain_line}
+use Rattle.eid_run.specs.Runs.{Happening, Did, Planned, line_for, journal, text_of, Scene, Made, DidLine, BrokeOffLine, IsFrontOfTrace, IsRunSoFar, DidSomeLines}
+
+pub made_of : (old new : Scene) (line : ScriptLine) (e m : PlainMoment) → Follows old.chip old.device old.cells new.chip new.device new.cells e → line_for e.input ≡ line → (slice_index old.cells 0 ≡ 1 → is_steady e.input ≡ true) → m ≡ e → Made old new line (Did m)
+made_of old new line e m follows asked steady same = subst (λ (x : PlainMoment). Made old new line (Did x)) (sym same) (record { comes = follows; asked = asked; steady = steady })
+
+pub found_number : (r : Result ℕ MountError) → r ≢ Err Cut → r ≢ Err BadImage → is_some (found r) ≡ true
+found_number (Ok number) cut bad = refl
+found_number (Err Cut) cut bad = absurd (cut refl)
+found_number (Err BadImage) cut bad = absurd (bad refl)
+
+pub some_is_not_none : {A : Type 0} (o : Option A) → IsSome o → o ≡ None → ⊥
+some_is_not_none o some none = absurd (cc)
+
+pub handled_line : (bytes : List ℕ) (outcome : Handled) → line_for (handled bytes outcome).input ≡ ApduLine bytes
+handled_line bytes Silent = refl
+handled_line bytes (Answered plain finished rule answer sent) = refl
+
+pub handled_steady : (bytes : List ℕ) (outcome : Handled) → is_steady (handled bytes outcome).input ≡ true
+handled_steady bytes Silent = refl
+handled_steady bytes (Answered plain finished rule answer sent) = refl
+
+-- a chip without power fits the journal without moments
+pub new_fits : (chip : Chip) (device : Device) (cells : List ℕ) (opening : FullRecord) → chip.life ≡ None → stands cells ≡ Some opening → Fits chip device cells opening []
+new_fits chip device cells opening off standing =
+    subst (λ (l : Option Running). Fits (record { life = l }) device cells opening []) (sym off) (record { powered = refl; sound = tt; living = tt; standing = standing })
+
+-- a line more, by what it made
+more : (h : Happening) (opening : FullRecord) (start old new : Scene) (lines : List ScriptLine) (line : ScriptLine) (first before now : SinkSeen) → before.tells ≡ first.tells → slice_index old.cells 0 ≡ slice_index start.cells 0 → IsRunSoFar opening start old lines first before → Made old new line h → (IsTrue before.tells → Grew before.written now.written (text_of h)) → IsRunSoFar opening start new (lines ++ line ∷ []) first now
+more (Did m) opening start old new lines line first before now tells layout run made written =
+    let step = made.comes opening (journal run.happened) run.fits in
+    record {
+      happened = Did m ∷ run.happened;
+      fits = step.1;
+      legal = (step.0, run.legal);
+      steady = λ one. (run.steady one, made.steady (layout ∙ one));
+      asked = rw (run.asked, made.asked) refl;
+      written = λ told. rw (written (rw tells told), run.written told) (append_assoc first.written (trace (journal run.happened)) (text m));
+    }
+more (Planned write tear) opening start old new lines line first before now tells layout run made written = record {
+  happened = Planned write tear ∷ run.happened;
+  fits = made.comes opening (journal run.happened) run.fits;
+  legal = run.legal;
+  steady = run.steady;
+  asked = rw (run.asked, made.asked) refl;
+  written = λ told. written (rw tells told) ∙ append-nil before.written ∙ run.written told;
+}
+
+pub ran_more : (opening : FullRecord) (start old new : Scene) (lines : List ScriptLine) (line : ScriptLine) (first before now : SinkSeen) → before.tells ≡ first.tells → slice_index old.cells 0 ≡ slice_index start.cells 0 → IsRunSoFar opening start old lines first before → DidLine old new line before now → IsRunSoFar opening start new (lines ++ line ∷ []) first now
+ran_more opening start old new lines line first before now tells layout run did = more did.happened opening start old new lines line first before now tells layout run did.made did.written
+
+whole_front : (moments : List PlainMoment) → IsFrontOfTrace (trace moments) moments
+whole_front [] = refl
+whole_front (m ∷ before) = (text m, ([], append-nil (text m)), refl)
+
+-- a line broke off
+pub broke_off : (opening : FullRecord) (start old new : Scene) (lines : List ScriptLine) (line : ScriptLine) (rest whole : List ScriptLine) (first before now : SinkSeen) → lines ++ line ∷ rest ≡ whole → before.tells ≡ first.tells → slice_index old.cells 0 ≡ slice_index start.cells 0 → IsRunSoFar opening start old lines first before → BrokeOffLine old new line before now → DidSomeLines opening whole start.cells first now
+broke_off opening start old new lines line rest whole first before now parts tells layout run (inl same) = record {
+  happened = run.happened;
+  legal = run.legal;
+  steady = run.steady;
+  asked = (line ∷ rest, rw run.asked parts);
+  written = λ told. (trace (journal run.happened), whole_front (journal run.happened), same.1 (rw tells told) ∙ run.written told);
+}
+broke_off opening start old new lines line rest whole first before now parts tells layout run (inr part) =
+    let step = part.made.comes opening (journal run.happened) run.fits in
+    record {
+      happened = Did part.moment ∷ run.happened;
+      legal = (step.0, run.legal);
+      steady = λ one. (run.steady one, part.made.steady (layout ∙ one));
+      asked = (rest, rw (run.asked, part.made.asked) (append_assoc lines (line ∷ []) rest ∙ parts));
+      written = λ told.
+          let grew = part.written (rw tells told) in
+          (trace (journal run.happened) ++ grew.0, (grew.0, grew.1, refl), grew.2 ∙ ap (λ (w : List ℕ). w ++ grew.0) (run.written told) ∙ append_assoc first.written (trace (journal run.happened)) grew.0);
+    }
+
+-- one line more was taken
+pub taken_more : (lines : List Line) (i : ℕ) (line : Line) → i < length lines → line ≡ get_or lines i line → map plain_line (take (i + 1) lines) ≡ map plain_line (take i lines) ++ plain_line line ∷ []
+taken_more lines i line within is = rw (take_more lines i line within, ← is, map-append) refl
+
+-- the lines taken, this one, and those behind it are all
+pub taken_apart : (lines : List Line) (i : ℕ) (line : Line) → i < length lines → line ≡ get_or lines i line → map plain_line (take i lines) ++ plain_line line ∷ map plain_line (drop (i + 1) lines) ≡ map plain_line lines
+taken_apart lines i line within is =
+    let front : map plain_line (take (i + 1) lines) ++ map plain_line (drop (i + 1) lines) ≡ map plain_line lines =
+    sym (map-append plain_line (take (i + 1) lines) (drop (i + 1) lines)) ∙ ap (map plain_line) (take-append-drop (i + 1) lines) in
+    sym (append_assoc (map plain_line (take i lines)) (plain_line line ∷ []) (map plain_line (drop (i + 1) lines)))
+    ∙ ap (λ (l : List ScriptLine). l ++ map plain_line (drop (i + 1) lines)) (sym (taken_more lines i line within is)) ∙ front
+
+pub ran_taken : (opening : FullRecord) (start old new : Scene) (lines : List Line) (i : ℕ) (line : Line) (first before now : SinkSeen) → i < length lines → line ≡ get_or lines i line → before.tells ≡ first.tells → slice_index old.cells 0 ≡ slice_index start.cells 0 → IsRunSoFar opening start old (map plain_line (take i lines)) first before → DidLine old new (plain_line line) before now → IsRunSoFar opening start new (map plain_line (take (i + 1) lines)) first now
+ran_taken opening start old new lines i line first before now within is tells layout run did =
+    subst (λ (l : List ScriptLine). IsRunSoFar opening start new l first now) (sym (taken_more lines i line within is))
+    (ran_more opening start old new (map plain_line (take i lines)) (plain_line line) first before now tells layout run did)
+
+pub new_sound : (chip : Chip) (device : Device) (cells : List ℕ) → chip.life ≡ None → IsSound chip device cells
+new_sound chip device cells off = subst (λ (l : Option Running). IsSoundLife l device cells) (sym off) tt

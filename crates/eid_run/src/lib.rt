@@ -1,0 +1,6 @@
+//! Running scripts over a chip and its device.
+#![tactic(auto)]
+
+mod run;
+
+pub use run::run_script;
