@@ -238,6 +238,57 @@ fn a_read_gives_what_is_left(rt: HostRuntime) -> Result<(), Fail> {
 }
 
 #[test]
+fn extended_lengths_are_heard(rt: HostRuntime) -> Result<(), Fail> {
+    let a = image(&rt, &[0x31, 0x00])?;
+    let rows = [
+        ("00B09C00000002", " rule 0", " answer 31009000"),
+        ("00B09C00000003", " rule 0", " answer 31006282"),
+        ("00B09C00000100", " rule 0", " answer 31009000"),
+        ("00B09C00000000", " rule 0", " answer 31009000"),
+        ("00B09C000000", " rule 1", " answer 6700"),
+        ("00A4020C000002011C", " rule 0", " answer 9000"),
+        ("00A4020C000002011C0000", " rule 0", " answer 9000"),
+        ("00A4020C000002011C00", " rule 1", " answer 6700"),
+    ];
+    for (command, rule, answer) in rows {
+        assert!(rt;
+            answers(&rt, a.as_slice(), command, rule, answer)?,
+            "at {command}"
+        );
+    }
+    Ok(())
+}
+
+/// A SELECT of the application with this extended Lc and so many bytes of body.
+fn long_selection(rt: &HostRuntime, lc: &str, size: usize) -> Result<String, AllocError> {
+    let mut command = String::from_str(rt.alloc(), "00A4040C00")?;
+    command.push_str(lc)?;
+    for _ in 0..size {
+        command.push_str("e8")?;
+    }
+    Ok(command)
+}
+
+#[test]
+fn a_request_has_at_most_2048_bytes_and_a_command_2200(rt: HostRuntime) -> Result<(), Fail> {
+    let a = image(&rt, &[0x31, 0x00])?;
+    let rows = [
+        ("0800", 2_048, " rule 10", " answer 6a80"),
+        ("0801", 2_049, " rule 8", " answer 6700"),
+        ("0898", 2_200, " rule 8", " answer 6700"),
+        ("0899", 2_201, " rule 1", " answer 6700"),
+    ];
+    for (lc, size, rule, answer) in rows {
+        let command = long_selection(&rt, lc, size)?;
+        assert!(rt;
+            answers(&rt, a.as_slice(), command.as_str(), rule, answer)?,
+            "{size} bytes"
+        );
+    }
+    Ok(())
+}
+
+#[test]
 fn a_selection_lasts_until_the_next_and_a_session_until_power(rt: HostRuntime) -> Result<(), Fail> {
     let a = image(&rt, &[0x31, 0x00])?;
     let script =

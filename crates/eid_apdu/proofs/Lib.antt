@@ -1,1 +1,3 @@
 pub mod OneCommand
+pub mod Tails
+pub mod Written

@@ -1,5 +1,5 @@
 -- Response APDUs (ISO/IEC 7816-4): the content, then the two status bytes.
-use Rattle.std.specs.Prelude.{ℕ, ◌/◌, ◌%◌, List, [], ◌∷◌, ◌++◌}
+use Rattle.std.specs.Prelude.{ℕ, ◌/◌, ◌%◌, ◌<◌, ◌≤◌, List, [], ◌∷◌, ◌++◌, length}
 use Rattle.eid_apdu.specs.declared.reply.Reply.{Reply}
 
 -- A reply as its fields alone.
@@ -18,3 +18,8 @@ status_bytes status = status / 256 ∷ status % 256 ∷ []
 -- the bytes of a reply
 abbrev pub spelled : PlainReply → List ℕ
 spelled r = r.content ++ status_bytes r.status
+
+-- a reply has at most 2,100 bytes of content, and a status of two bytes
+pub record IsReply (r : PlainReply) : Type 0 where
+  pub content : length r.content ≤ 2100
+  pub status : r.status < 65536

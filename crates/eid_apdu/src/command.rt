@@ -1,8 +1,8 @@
 //! Reading a command.
-ghost use Rattle.std.specs.Prelude.{◌≡◌, ℕ, List, ◌∷◌, IfOk, IsOkAnd};
-ghost use Rattle.eid_apdu.specs.Command.{PlainCommand, plain_command, short_le, IsShortBody, IsShortLe, IsTail, Spells};
+ghost use Rattle.std.specs.Prelude.{◌≡◌, ◌<◌, ℕ, List, [], ◌∷◌, length, IfOk, IsOkAnd, OnErr};
+ghost use Rattle.eid_apdu.specs.Command.{PlainCommand, plain_command, short_le, extended_le, two_bytes, IsShortLe, IsExtendedLe, IsTail, Spells};
 
-/// The bytes are no command.
+/// The bytes are no command, or no reply.
 #[derive(Clone, Copy, Debug, PartialEq, Eq, Hash)]
 pub struct BadApdu;
 
@@ -31,14 +31,32 @@ fn expected(le: u8) -> u32
     if le == 0 { 256 } else { u32::from(le) }
 }
 
-/// Body and expected length of the bytes behind a length byte Lc: a body of that many bytes, and then
-/// nothing or one byte Le.
+/// The number that two bytes are, big-endian.
+fn number(high: u8, low: u8) -> u16
+    ensures { two_bytes result ≡ high ∷ low ∷ [] }
+{
+    u16::from(high) * 256 + u16::from(low)
+}
+
+/// The expected length that two bytes Le stand for: 0000 is 65,536.
+fn extended_expected(high: u8, low: u8) -> u32
+    ensures value { two_bytes (extended_le result) ≡ high ∷ low ∷ [] }
+    ensures range { IsExtendedLe result }
+{
+    let le = number(high, low);
+    if le == 0 { 65_536 } else { u32::from(le) }
+}
+
+/// Body and expected length of the bytes behind a length byte Lc other than 00: a body of that many
+/// bytes, and then nothing or one byte Le.
 fn read_body(lc: u8, bytes: &[u8]) -> Result<(&[u8], u32), BadApdu>
+    requires size { 0 < lc }
+    requires some { 0 < length bytes.now }
     ensures found { IfOk result (λ r. IsTail (lc ∷ bytes.now) r.0.now r.1) }
-    ensures only { (body : List ℕ) (ne : ℕ) → IsShortBody body → IsTail (lc ∷ bytes.now) body ne → IsOkAnd result (λ r. (r.0.now ≡ body) × (r.1 ≡ ne)) }
+    ensures refused { OnErr result ((body : List ℕ) (ne : ℕ) → IsTail (lc ∷ bytes.now) body ne → ⊥) }
 {
     let count = usize::from(lc);
-    if count == 0 || bytes.len() < count {
+    if bytes.len() < count {
         return Err(BadApdu);
     }
     let (body, after) = bytes.split_at(count);
@@ -49,19 +67,52 @@ fn read_body(lc: u8, bytes: &[u8]) -> Result<(&[u8], u32), BadApdu>
     }
 }
 
+/// Body and expected length of the bytes behind 00 and two length bytes Lc: a body of that many bytes,
+/// and then nothing or two bytes Le.
+fn read_extended_body(high: u8, low: u8, bytes: &[u8]) -> Result<(&[u8], u32), BadApdu>
+    requires { 0 < length bytes.now }
+    ensures found { IfOk result (λ r. IsTail (0 ∷ high ∷ low ∷ bytes.now) r.0.now r.1) }
+    ensures refused { OnErr result ((body : List ℕ) (ne : ℕ) → IsTail (0 ∷ high ∷ low ∷ bytes.now) body ne → ⊥) }
+{
+    let count = usize::from(number(high, low));
+    if count == 0 || bytes.len() < count {
+        return Err(BadApdu);
+    }
+    let (body, after) = bytes.split_at(count);
+    match after {
+        [] => Ok((body, 0)),
+        [high, low] => Ok((body, extended_expected(*high, *low))),
+        _ => Err(BadApdu),
+    }
+}
+
+/// Body and expected length of the bytes behind the byte 00 of an extended length field.
+fn read_extended(bytes: &[u8]) -> Result<(&[u8], u32), BadApdu>
+    requires { 0 < length bytes.now }
+    ensures found { IfOk result (λ r. IsTail (0 ∷ bytes.now) r.0.now r.1) }
+    ensures refused { OnErr result ((body : List ℕ) (ne : ℕ) → IsTail (0 ∷ bytes.now) body ne → ⊥) }
+{
+    match bytes {
+        [high, low] => Ok((&[], extended_expected(*high, *low))),
+        [high, low, rest @ ..] => read_extended_body(*high, *low, rest),
+        _ => Err(BadApdu),
+    }
+}
+
 /// Body and expected length of the bytes behind a header.
 fn read_tail(bytes: &[u8]) -> Result<(&[u8], u32), BadApdu>
     ensures found { IfOk result (λ r. IsTail bytes.now r.0.now r.1) }
-    ensures only { (body : List ℕ) (ne : ℕ) → IsTail bytes.now body ne → IsOkAnd result (λ r. (r.0.now ≡ body) × (r.1 ≡ ne)) }
+    ensures refused { OnErr result ((body : List ℕ) (ne : ℕ) → IsTail bytes.now body ne → ⊥) }
 {
     match bytes {
         [] => Ok((&[], 0)),
         [le] => Ok((&[], expected(*le))),
+        [0, rest @ ..] => read_extended(rest),
         [lc, rest @ ..] => read_body(*lc, rest),
     }
 }
 
-/// Reads the command that the bytes spell (ISO/IEC 7816-4, the cases with short length fields).
+/// Reads the command that the bytes spell (ISO/IEC 7816-4), with length fields of one byte or extended.
 ///
 /// # Errors
 /// `BadApdu` exactly where no case spells the bytes.

@@ -10,11 +10,11 @@ ghost use Rattle.eid_model.specs.Rules.{NoCommand};
 ghost use Rattle.eid_model.specs.Legal.{silent};
 ghost use Rattle.eid_model.specs.View as view;
 ghost use Rattle.eid_chip.specs.Held.{held};
-ghost use Rattle.eid_chip.specs.Steps.{Answers, Responds, state, as_heard};
+ghost use Rattle.eid_chip.specs.Steps.{Answers, Responds, Told, state, as_heard};
 
 use crate::naming::kind_of;
 use crate::reaction::{Reaction, Response, refused};
-use crate::refusal::NO_COMMAND;
+use crate::refusal::{LONG_REQUEST, NO_COMMAND};
 use crate::running::Running;
 use crate::select::{read_binary, select_application, select_file, select_master_file};
 use crate::session::Session;
@@ -25,6 +25,9 @@ use eid_cells::Eeprom;
 use eid_model::{Kind, MAX_BODY, Plain};
 use eid_store::{MountError, Store};
 use std::mem;
+
+/// The longest body of one request, in bytes.
+const MAX_REQUEST: usize = 2048;
 
 /// What came of the bytes of a command.
 #[derive(Debug, Drop)]
@@ -63,18 +66,38 @@ fn own(c: &Command<'_>) -> Plain
     }
 }
 
+/// Carries out a command of this kind, or refuses it by the first failed rule of its kind.
+fn carry_out<E: Eeprom>(
+    kind: Kind,
+    session: Session,
+    store: &Store,
+    cells: &E,
+    c: &Command<'_>,
+) -> Reaction
+    requires { stored.Fits store.now (E.device cells.now) (E.cells cells.now) }
+    ensures { Told kind (held (E.cells cells.now)) (state session) (plain_command c.now) result }
+{
+    match kind {
+        Kind::SelectApplication => select_application(session, c),
+        Kind::SelectMasterFile => select_master_file(session, c),
+        Kind::SelectFile => select_file(session, c),
+        Kind::ReadBinary => read_binary(session, store, cells, c),
+    }
+}
+
 /// Carries a command out, or refuses it by the first failed rule.
 fn react<E: Eeprom>(session: Session, store: &Store, cells: &E, c: &Command<'_>) -> Reaction
     requires { stored.Fits store.now (E.device cells.now) (E.cells cells.now) }
     ensures { Answers (held (E.cells cells.now)) (state session) (as_heard (plain_command c.now)) result }
 {
-    match kind_of(c) {
-        Ok(Kind::SelectApplication) => select_application(session, c),
-        Ok(Kind::SelectMasterFile) => select_master_file(session, c),
-        Ok(Kind::SelectFile) => select_file(session, c),
-        Ok(Kind::ReadBinary) => read_binary(session, store, cells, c),
-        Err(refusal) => refused(refusal, session),
+    let kind = match kind_of(c) {
+        Ok(kind) => kind,
+        Err(refusal) => return refused(refusal, session),
+    };
+    if c.body.len() > MAX_REQUEST {
+        return refused(LONG_REQUEST, session);
     }
+    carry_out(kind, session, store, cells, c)
 }
 
 /// Hears the bytes of a command and answers them.

@@ -28,6 +28,11 @@ pub const PARAMETERS: Refusal = Refusal {
     rule: Rule(6),
     status: Status(0x6A86),
 };
+/// The body of the request is too long.
+pub const LONG_REQUEST: Refusal = Refusal {
+    rule: Rule(8),
+    status: Status(0x6700),
+};
 /// The body has not the form of the kind.
 pub const BODY_FORM: Refusal = Refusal {
     rule: Rule(10),

@@ -7,7 +7,7 @@ use Rattle.eid_model.specs.declared.kind.Kind.{Kind}
 use Rattle.eid_model.specs.declared.kind.Kind.TheVariants.{SelectApplication, SelectMasterFile, SelectFile, ReadBinary}
 use Rattle.eid_model.specs.Kinds.{kind_named}
 use Rattle.eid_model.specs.Sessions.{State, advanced}
-use Rattle.eid_model.specs.Rules.{Heard, NoCommand, Command, Situation, RuleRow, hearing_rules, naming_rules, kind_rules, first_failed, file_of, file_meant, offset_meant}
+use Rattle.eid_model.specs.Rules.{Heard, NoCommand, Command, Situation, RuleRow, hearing_rules, naming_rules, request_rules, kind_rules, first_failed, file_of, file_meant, offset_meant}
 
 abbrev pub status_alone : ℕ → PlainReply
 status_alone status = record { content = []; status = status }
@@ -53,7 +53,7 @@ situation kept state heard =
 
 -- the rules in order
 abbrev pub rules : List RuleRow
-rules = hearing_rules ++ naming_rules ++ kind_rules
+rules = hearing_rules ++ naming_rules ++ request_rules ++ kind_rules
 
 unfoldable pub outcome : Situation → Outcome
 outcome s = outcome_by (first_failed rules s) s

@@ -96,6 +96,17 @@ naming_rules =
     -- some kind has this class, instruction and parameters
     record { number = 6; status = always 0x6A86; kinds = []; holds = λ s. list_any (has_parameters s.command) kinds } ∷ []
 
+-- the longest body of one request
+abbrev pub MAX_REQUEST : ℕ
+MAX_REQUEST = 2048
+
+-- whether the request can be answered by its kind, whatever the kind is
+abbrev pub request_rules : List RuleRow
+request_rules =
+    -- the request's body has at most 2,048 bytes. No request of this stage is sent in fragments, so the
+    -- command is the request.
+    record { number = 8; status = always 0x6700; kinds = []; holds = λ s. nat_le (length s.command.body) MAX_REQUEST } ∷ []
+
 -- whether a command of its kind is carried out
 abbrev pub kind_rules : List RuleRow
 kind_rules =

@@ -39,7 +39,7 @@ pub data LengthForm (n : ℕ) : Type 0 where
   in_two : 0x80 ≤ n → n < 0x100 → LengthForm n
   in_three : 0x100 ≤ n → LengthForm n
 
-length_form : (n : ℕ) → LengthForm n
+pub length_form : (n : ℕ) → LengthForm n
 length_form n = elim (cases_lt n 0x80) [
   | inl short ↦ in_one short
   | inr long ↦ elim (cases_lt n 0x100) [ inl short ↦ in_two long short | inr longer ↦ in_three longer ]

@@ -19,6 +19,15 @@ length_size size = elim (cases_lt size 0x80) [
   ]
 ]
 
+pub some_length : (size : ℕ) → 1 ≤ length (length_bytes size)
+some_length size = elim (cases_lt size 0x80) [
+  | inl short ↦ rw (length_bytes-one size short) (omega arith)
+  | inr long ↦ elim (cases_lt size 0x100) [
+    | inl short ↦ rw (length_bytes-two size long short) (omega arith)
+    | inr longer ↦ rw (length_bytes-three size longer) (omega arith)
+  ]
+]
+
 -- an object has at most five bytes more than its value
 pub object_size : (tag : ℕ) (value : List ℕ)
     → length (object tag value) ≡ length (tag_bytes tag) + length (length_bytes (length value)) + length value

@@ -1,3 +1,5 @@
 pub mod Objects
 pub mod Reading
 pub mod Parts
+pub mod Lists
+pub mod ListIn

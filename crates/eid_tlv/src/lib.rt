@@ -2,9 +2,11 @@
 //! 65,535 in their shortest form.
 #![tactic(auto)]
 
+mod lists;
 mod reading;
 mod writing;
 
+pub use lists::{Found, find, law_list_in, law_one_list};
 pub use reading::{Tlv, TlvError, next};
 pub use writing::put;
 

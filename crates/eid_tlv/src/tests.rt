@@ -1,3 +1,4 @@
+use crate::lists::{Found, find};
 use crate::reading::{Tlv, TlvError, next};
 use crate::writing::put;
 use arrayvec::ArrayVec;
@@ -81,4 +82,17 @@ fn what_does_not_fit_leaves_the_buffer(rt: HostRuntime) {
         out.as_slice(),
         [0x5F, 0x24, 0x00, 0x53, 0x01, 0x01].as_slice()
     );
+}
+
+#[test]
+fn a_tag_is_looked_for_in_a_list(rt: HostRuntime) {
+    let bytes = [
+        0x80, 0x01, 0xAA, 0x83, 0x00, 0x80, 0x00, 0x7F, 0x4C, 0x01, 0x80,
+    ];
+    assert_eq!(rt; find(&bytes, 0x80), Found::Repeated);
+    assert_eq!(rt; find(&bytes, 0x83), Found::Once(&[]));
+    assert_eq!(rt; find(&bytes, 0x7F4C), Found::Once(&[0x80]));
+    assert_eq!(rt; find(&bytes, 0x84), Found::Absent);
+    assert_eq!(rt; find(&bytes[..10], 0x83), Found::NoList);
+    assert_eq!(rt; find(&[], 0x80), Found::Absent);
 }
