@@ -1,16 +1,16 @@
 -- What is read of an input file.
 use Rattle.std.proofs.Common.{◌≡◌, ℕ, ◌<◌, Bool, true, false, IsTrue, List, length, Option, Some, None, Result, Ok, Err, refl, sym, ap, ◌∙◌, arith, nat_eq, subst, inl, inr}
-use Rattle.std.specs.Prelude.{◌⊎◌, map, IfOk, IfErr, IsSome, IsSomeAnd, nat_le, Vec}
+use Rattle.std.specs.Prelude.{◌⊎◌, IfOk, IfErr, IsSome, IsSomeAnd, nat_le, Vec}
 use Rattle.std.specs.declared.alloc.Global.{Global}
 use Rattle.std.proofs.lemmas.Bool.Decides.{nat_tests}
 use Rattle.eid.specs.declared.exit.Exit.{Exit}
 use Rattle.eid.specs.declared.exit.Exit.TheVariants.{Done, Usage, FileFault, NoMemory, BadImage, BadScript, BadConfig, SinkFault, BadAnswers}
-use Rattle.eid_script.specs.declared.script.Line.{Line}
-use Rattle.eid_script.specs.Scripts.{plain_line, script_of, script_limit}
+use Rattle.eid_script.specs.Scripts.{script_of, script_limit}
+use Rattle.eid.specs.Configs.{config_of}
 use Rattle.eid.specs.Images.{record_of}
 use Rattle.eid_record.specs.Plain.{FullRecord}
 use Rattle.eid_store.specs.Stands.{stands}
-use Rattle.eid.specs.Works.{image_in, script_in, or_bad_line, IsRefused, IsBadScript}
+use Rattle.eid.specs.Inputs.{image_in, script_in, config_in, or_bad, IsRefused, IsBad}
 
 -- the image, where the file holds these bytes
 pub image_read : (file : Option (List ℕ)) (bytes : List ℕ) (full : FullRecord) → file ≡ Some bytes → record_of bytes ≡ Some full → image_in file ≡ Ok full
@@ -22,10 +22,17 @@ unfolding image_in
 image_bad file bytes is stood = rw (is, stood) refl
 
 -- cells of the right number that stand for a record are an image
-pub image_of_cells : (cells : List ℕ) (full : FullRecord) → length cells ≡ 65536 → stands cells ≡ Some full → image_in (Some cells) ≡ Ok full
-image_of_cells cells full long stood =
+pub record_of_cells : (cells : List ℕ) (full : FullRecord) → length cells ≡ 65536 → stands cells ≡ Some full → record_of cells ≡ Some full
+record_of_cells cells full long stood =
     let right : nat_eq (length cells) 65536 ≡ true = rw long refl in
-    image_read (Some cells) cells full refl (rw right stood)
+    rw right stood
+
+pub image_of_cells : (cells : List ℕ) (full : FullRecord) → length cells ≡ 65536 → stands cells ≡ Some full → image_in (Some cells) ≡ Ok full
+image_of_cells cells full long stood = image_read (Some cells) cells full refl (record_of_cells cells full long stood)
+
+pub some_of : (found : Option FullRecord) → IsSome found → (full : FullRecord) × (found ≡ Some full)
+some_of None is = absurd cc
+some_of (Some full) is = (full, refl)
 
 -- a file that is too long stands for nothing
 long_image : (bytes : List ℕ) → 65536 < length bytes → record_of bytes ≡ None
@@ -41,7 +48,7 @@ pub image_absent : (file : Option (List ℕ)) → file ≡ None → image_in fil
 unfolding image_in
 image_absent file is = rw is refl
 
-script_is : (file : Option (List ℕ)) (text : List ℕ) → file ≡ Some text → script_in file ≡ or_bad_line (script_of text)
+pub script_is : (file : Option (List ℕ)) (text : List ℕ) → file ≡ Some text → script_in file ≡ or_bad BadScript (script_of text)
 unfolding script_in
 script_is file text is = rw is refl
 
@@ -52,11 +59,29 @@ long_text text long =
 
 pub script_long : (file : Option (List ℕ)) → IsSomeAnd file (λ text. script_limit < length text) → script_in file ≡ Err (BadScript 0)
 script_long None long = absurd long
-script_long (Some text) long = script_is (Some text) text refl ∙ ap or_bad_line (long_text text long)
+script_long (Some text) long = script_is (Some text) text refl ∙ ap (or_bad BadScript) (long_text text long)
 
 pub script_absent : (file : Option (List ℕ)) → file ≡ None → script_in file ≡ Err FileFault
 unfolding script_in
 script_absent file is = rw is refl
+
+pub config_is : (file : Option (List ℕ)) (text : List ℕ) → file ≡ Some text → config_in file ≡ or_bad BadConfig (config_of text)
+unfolding config_in
+config_is file text is = rw is refl
+
+long_config : (text : List ℕ) → 1048576 < length text → config_of text ≡ Err 0
+unfolding config_of
+long_config text long =
+    let beyond : nat_le (length text) 1048576 ≡ false = grind (arith, nat_tests) in
+    rw beyond refl
+
+pub config_long : (file : Option (List ℕ)) → IsSomeAnd file (λ text. 1048576 < length text) → config_in file ≡ Err (BadConfig 0)
+config_long None long = absurd long
+config_long (Some text) long = config_is (Some text) text refl ∙ ap (or_bad BadConfig) (long_config text long)
+
+pub config_absent : (file : Option (List ℕ)) → file ≡ None → config_in file ≡ Err FileFault
+unfolding config_in
+config_absent file is = rw is refl
 
 -- from the image of the bytes to the image of the file
 pub image_stands : (r : Result (Vec ℕ Global) Exit) (bytes : Vec ℕ Global) → IfOk r (λ image. (image ≡ bytes) × (length bytes.items ≡ 65536) × IsSome (stands bytes.items)) → IfOk r (λ cells. (length cells.items ≡ 65536) × IsSome (stands cells.items))
@@ -72,26 +97,26 @@ refused_image (Ok i) tells file bytes rose is h = h
 refused_image (Err e) tells file bytes rose is (inl memory) = subst (λ (x : Exit). IsRefused tells (image_in file) rose x) (sym memory) tt
 refused_image (Err e) tells file bytes rose is (inr bad) = subst (λ (x : Exit). IsRefused tells (image_in file) rose x) (sym bad.0) (λ told. image_bad file bytes (is told) bad.1)
 
--- from the script of the text to the script of the file
-pub whole_script : (r : Result (Vec Line Global) Exit) (tells : Bool) (file : Option (List ℕ)) (text : List ℕ) → (IsTrue tells → file ≡ Some text) → IfOk r (λ lines. or_bad_line (script_of text) ≡ Ok (map plain_line lines.items)) → IfOk r (λ lines. IsTrue tells → script_in file ≡ Ok (map plain_line lines.items))
-whole_script (Ok lines) tells file text is h = λ told. script_is file text (is told) ∙ h
-whole_script (Err e) tells file text is h = h
+-- From what a text says to what its file says, for a script and a configuration alike.
+pub whole_text : {A B : Type 0} (r : Result B Exit) (view : B → A) (input : Option (List ℕ) → Result A Exit) (said : Result A Exit) (tells : Bool) (file : Option (List ℕ)) (text : List ℕ) → ((f : Option (List ℕ)) → f ≡ Some text → input f ≡ said) → (IsTrue tells → file ≡ Some text) → IfOk r (λ x. said ≡ Ok (view x)) → IfOk r (λ x. IsTrue tells → input file ≡ Ok (view x))
+whole_text (Ok x) view input said tells file text at is h = λ told. at file (is told) ∙ h
+whole_text (Err e) view input said tells file text at is h = h
 
-bad_script : (e : Exit) (tells : Bool) (file : Option (List ℕ)) (text : List ℕ) (rose : Type 0) → (IsTrue tells → file ≡ Some text) → IsBadScript e (or_bad_line (script_of text)) → IsRefused tells (script_in file) rose e
-bad_script (BadScript line) tells file text rose is h = λ told. script_is file text (is told) ∙ h
-bad_script Done tells file text rose is h = absurd h
-bad_script Usage tells file text rose is h = absurd h
-bad_script FileFault tells file text rose is h = absurd h
-bad_script NoMemory tells file text rose is h = absurd h
-bad_script BadImage tells file text rose is h = absurd h
-bad_script (BadConfig key) tells file text rose is h = absurd h
-bad_script SinkFault tells file text rose is h = absurd h
-bad_script (BadAnswers line) tells file text rose is h = absurd h
+bad_text : {A : Type 0} (e : Exit) (input : Option (List ℕ) → Result A Exit) (said : Result A Exit) (tells : Bool) (file : Option (List ℕ)) (text : List ℕ) (rose : Type 0) → ((f : Option (List ℕ)) → f ≡ Some text → input f ≡ said) → (IsTrue tells → file ≡ Some text) → IsBad e said → IsRefused tells (input file) rose e
+bad_text (BadScript line) input said tells file text rose at is h = λ told. at file (is told) ∙ h
+bad_text (BadConfig key) input said tells file text rose at is h = λ told. at file (is told) ∙ h
+bad_text Done input said tells file text rose at is h = absurd h
+bad_text Usage input said tells file text rose at is h = absurd h
+bad_text FileFault input said tells file text rose at is h = absurd h
+bad_text NoMemory input said tells file text rose at is h = absurd h
+bad_text BadImage input said tells file text rose at is h = absurd h
+bad_text SinkFault input said tells file text rose at is h = absurd h
+bad_text (BadAnswers line) input said tells file text rose at is h = absurd h
 
-pub refused_script : (r : Result (Vec Line Global) Exit) (tells : Bool) (file : Option (List ℕ)) (text : List ℕ) (rose : Type 0) → (IsTrue tells → file ≡ Some text) → IfErr r (λ e. (e ≡ NoMemory) ⊎ IsBadScript e (or_bad_line (script_of text))) → IfErr r (λ e. IsRefused tells (script_in file) rose e)
-refused_script (Ok lines) tells file text rose is h = h
-refused_script (Err e) tells file text rose is (inl memory) = subst (λ (x : Exit). IsRefused tells (script_in file) rose x) (sym memory) tt
-refused_script (Err e) tells file text rose is (inr bad) = bad_script e tells file text rose is bad
+pub refused_text : {A B : Type 0} (r : Result B Exit) (input : Option (List ℕ) → Result A Exit) (said : Result A Exit) (tells : Bool) (file : Option (List ℕ)) (text : List ℕ) (rose : Type 0) → ((f : Option (List ℕ)) → f ≡ Some text → input f ≡ said) → (IsTrue tells → file ≡ Some text) → IfErr r (λ e. (e ≡ NoMemory) ⊎ IsBad e said) → IfErr r (λ e. IsRefused tells (input file) rose e)
+refused_text (Ok x) input said tells file text rose at is h = h
+refused_text (Err e) input said tells file text rose at is (inl memory) = subst (λ (x : Exit). IsRefused tells (input file) rose x) (sym memory) tt
+refused_text (Err e) input said tells file text rose at is (inr bad) = bad_text e input said tells file text rose at is bad
 
 -- a file that is absent, or a fault
 pub failed_read : {A : Type 0} (input : Option (List ℕ) → Result A Exit) (tells : Bool) (file : Option (List ℕ)) (rose : Type 0) → ((f : Option (List ℕ)) → f ≡ None → input f ≡ Err FileFault) → rose ⊎ (IsTrue tells × (file ≡ None)) → rose ⊎ (IsTrue tells × (input file ≡ Err FileFault))

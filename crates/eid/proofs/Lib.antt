@@ -1,3 +1,7 @@
-pub mod Ends
-pub mod FourWords
+pub mod EndsOfMake
+pub mod EndsOfRun
+pub mod EndsOfShow
 pub mod Inputs
+pub mod Refusals
+pub mod Spoken
+pub mod Texts

@@ -1,16 +1,23 @@
 -- The words of the command line. This project's own.
 use Rattle.std.specs.Prelude.{◌≡◌, ℕ, ◌^◌, ◌<◌, List, [], ◌∷◌, codes, decimal}
 
--- What the words ask for: to run a script on an image, with the start of the coprocessor.
+-- What the words ask for: to run a script on an image, with the start of the coprocessor; to write the
+-- image of a configuration; to print the record of an image.
 pub data Command : Type 0 where
-  Run : List ℕ → List ℕ → ℕ → Command
+  Run : (image script : List ℕ) (start : ℕ) → Command
+  Make : (config image : List ℕ) → Command
+  Show : (image : List ℕ) → Command
 
 abbrev pub words_of : Command → List (List ℕ)
 words_of (Run image script start) = codes "run" ∷ image ∷ script ∷ decimal start ∷ []
+words_of (Make config image) = codes "make" ∷ config ∷ image ∷ []
+words_of (Show image) = codes "show" ∷ image ∷ []
 
 -- the numbers among the words are in their range
 abbrev pub HasNumbers : Command → Type 0
 HasNumbers (Run image script start) = start < 2 ^ 64
+HasNumbers (Make config image) = Unit {0}
+HasNumbers (Show image) = Unit {0}
 
 -- the words are those of the command
 pub record Says (words : List (List ℕ)) (c : Command) : Type 0 where

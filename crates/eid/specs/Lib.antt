@@ -1,4 +1,11 @@
 pub mod Commands
+pub mod Configs
+pub mod Exits
 pub mod Images
+pub mod Inputs
+pub mod Make
+pub mod Run
+pub mod Show
+pub mod Sinks
 pub mod Words
 pub mod Works

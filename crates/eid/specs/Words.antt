@@ -1,7 +1,9 @@
 -- The words of the code as a command.
 use Rattle.eid.specs.declared.words.Words.{Words}
 use Rattle.eid.specs.declared.words.Words.TheVariants as variants
-use Rattle.eid.specs.Commands.{Command, Run}
+use Rattle.eid.specs.Commands.{Command, Run, Make, Show}
 
 abbrev pub command : Words → Command
 command (variants.Run image script start) = Run image.now script.now start
+command (variants.Make config image) = Make config.now image.now
+command (variants.Show image) = Show image.now

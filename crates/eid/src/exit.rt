@@ -1,4 +1,8 @@
 //! How the program ends.
+ghost use Rattle.std.specs.Prelude.{◌≡◌};
+ghost use Rattle.eid.specs.Exits.{exit_status, exit_broken, exit_not_stored, exit_not_printed};
+
+use eid_base::{IoError, RunError};
 
 /// What the program ends in. The exit statuses are 0 to 8 in this order.
 #[derive(Clone, Copy, Debug, PartialEq, Eq)]
@@ -33,9 +37,6 @@ pub enum Exit {
 }
 
 impl Exit {
-    ghost use Rattle.std.specs.Prelude.{◌≡◌};
-    ghost use Rattle.eid.specs.Works.{exit_status};
-
     /// The exit status of the process.
     pub fn status(self) -> u8
         ensures { result ≡ exit_status self }
@@ -50,6 +51,36 @@ impl Exit {
             Exit::BadConfig { .. } => 6,
             Exit::SinkFault => 7,
             Exit::BadAnswers { .. } => 8,
+        }
+    }
+
+    /// The exit of a run that broke off.
+    pub fn of_run(error: RunError) -> Exit
+        ensures { result ≡ exit_broken error }
+    {
+        match error {
+            RunError::SinkFault => Exit::SinkFault,
+            RunError::NoMemory => Exit::NoMemory,
+        }
+    }
+
+    /// The exit of a write to a folder that failed.
+    pub fn of_write(error: IoError) -> Exit
+        ensures { result ≡ exit_not_stored error }
+    {
+        match error {
+            IoError::NoMemory => Exit::NoMemory,
+            IoError::Absent | IoError::Fault => Exit::FileFault,
+        }
+    }
+
+    /// The exit of a write to a sink that failed.
+    pub fn of_put(error: IoError) -> Exit
+        ensures { result ≡ exit_not_printed error }
+    {
+        match error {
+            IoError::NoMemory => Exit::NoMemory,
+            IoError::Absent | IoError::Fault => Exit::SinkFault,
         }
     }
 }

@@ -5,11 +5,14 @@ ghost use Rattle.eid_base.specs.Seen.{SameFiles};
 ghost use Rattle.eid_store.specs.Stands.{stands};
 ghost use Rattle.eid_script.specs.Scripts.{plain_line, script_of};
 ghost use Rattle.eid.specs.Images.{record_of};
-ghost use Rattle.eid.specs.Works.{image_in, script_in, or_bad_line, IsRead, IsRefused, IsBadScript};
+ghost use Rattle.eid_perso.specs.Config.{IsWhole, config_view};
+ghost use Rattle.eid.specs.Configs.{config_of};
+ghost use Rattle.eid.specs.Inputs.{image_in, script_in, config_in, or_bad, IsRead, IsRefused, IsBad};
 
 use crate::exit::Exit;
 use eid_base::{Folder, IoError, NoMemory};
 use eid_cells::{Eeprom, MemoryEeprom};
+use eid_perso::{Config, ConfigError, read_config};
 use eid_script::{Line, ScriptError, read_script};
 use eid_store::Store;
 use std::alloc::Global;
@@ -19,6 +22,9 @@ pub const IMAGE_SIZE: usize = 65536;
 
 /// How many bytes the longest script has.
 const SCRIPT_LIMIT: usize = 1_048_576;
+
+/// How many bytes the longest configuration has.
+const CONFIG_LIMIT: usize = 1_048_576;
 
 /// What came of reading a file whole, up to a limit.
 #[derive(Debug, Drop)]
@@ -101,8 +107,8 @@ pub fn load_image<F: Folder>(alloc: Global, folder: &mut F, name: &str) -> Resul
 
 /// The script of this text.
 fn script_of_text(alloc: Global, text: &[u8]) -> Result<Vec<Line>, Exit>
-    ensures found { IfOk result (λ lines. or_bad_line (script_of text.now) ≡ Ok (map plain_line lines.items)) }
-    ensures refused { IfErr result (λ e. (e ≡ Exit.NoMemory) ⊎ IsBadScript e (or_bad_line (script_of text.now))) }
+    ensures found { IfOk result (λ lines. or_bad Exit.BadScript (script_of text.now) ≡ Ok (map plain_line lines.items)) }
+    ensures refused { IfErr result (λ e. (e ≡ Exit.NoMemory) ⊎ IsBad e (or_bad Exit.BadScript (script_of text.now))) }
 {
     match read_script(alloc, text) {
         Ok(lines) => Ok(lines),
@@ -121,6 +127,35 @@ pub fn load_script<F: Folder>(alloc: Global, folder: &mut F, name: &str) -> Resu
     match read_whole(alloc, folder, name, SCRIPT_LIMIT) {
         Read::Whole(text) => script_of_text(alloc, text.as_slice()),
         Read::TooLong => Err(Exit::BadScript { line: 0 }),
+        Read::NoMemory => Err(Exit::NoMemory),
+        Read::Failed => Err(Exit::FileFault),
+    }
+}
+
+/// The configuration of this text.
+fn config_of_text(alloc: Global, text: &[u8]) -> Result<Config, Exit>
+    ensures found { IfOk result (λ config. or_bad Exit.BadConfig (config_of text.now) ≡ Ok (config_view config)) }
+    ensures whole { IfOk result (λ config. IsWhole (config_view config)) }
+    ensures refused { IfErr result (λ e. (e ≡ Exit.NoMemory) ⊎ IsBad e (or_bad Exit.BadConfig (config_of text.now))) }
+{
+    match read_config(alloc, text) {
+        Ok(config) => Ok(config),
+        Err(ConfigError::Bad { key }) => Err(Exit::BadConfig { key }),
+        Err(ConfigError::NoMemory) => Err(Exit::NoMemory),
+    }
+}
+
+/// Reads a configuration.
+pub fn load_config<F: Folder>(alloc: Global, folder: &mut F, name: &str) -> Result<Config, Exit>
+    ensures said { IfOk result (λ config. IsTrue (F.seen folder.old).tells → config_in ((F.seen folder.old).file name.now) ≡ Ok (config_view config)) }
+    ensures whole { IfOk result (λ config. IsWhole (config_view config)) }
+    ensures refused { IfErr result (λ e. IsRefused (F.seen folder.old).tells (config_in ((F.seen folder.old).file name.now)) (Rose (F.seen folder.old).faults (F.seen folder.new).faults) e) }
+    ensures same { SameFiles (F.seen folder.old) (F.seen folder.new) }
+    ensures later { (F.seen folder.old).faults ≤ (F.seen folder.new).faults }
+{
+    match read_whole(alloc, folder, name, CONFIG_LIMIT) {
+        Read::Whole(text) => config_of_text(alloc, text.as_slice()),
+        Read::TooLong => Err(Exit::BadConfig { key: 0 }),
         Read::NoMemory => Err(Exit::NoMemory),
         Read::Failed => Err(Exit::FileFault),
     }

@@ -3,7 +3,10 @@
 
 mod exit;
 mod load;
+mod make;
 mod program;
+mod run;
+mod show;
 #[cfg(test)]
 mod tests;
 mod words;

@@ -1,5 +1,7 @@
 //! The program over a folder and a sink in memory. Whole traces were computed by a separate simulator
 //! in Python, written from the standard and not from this program.
+mod images;
+
 use crate::exit::Exit;
 use crate::program::program;
 use eid_base::{MemoryFolder, MemorySink};

@@ -1,5 +1,5 @@
 //! The words of the command line.
-ghost use Rattle.std.specs.Prelude.{◌≡◌, ◌<◌, ◌^◌, ◌↔◌, ℕ, codes, decimal, map, string_bytes, IsTrue, IfOk, IfSome, IfNone};
+ghost use Rattle.std.specs.Prelude.{◌≡◌, ◌<◌, ◌^◌, ◌↔◌, ◌∷◌, ℕ, codes, decimal, map, string_bytes, IsTrue, IfOk, IfSome, IfNone};
 ghost use Rattle.eid.specs.Commands.{Command, Says};
 ghost use Rattle.eid.specs.Words.{command};
 
@@ -17,6 +17,18 @@ pub enum Words<'a> {
         script: &'a str,
         /// The start of the model coprocessor.
         start: u64,
+    },
+    /// To write the image of a configuration.
+    Make {
+        /// The name of the configuration's file.
+        config: &'a str,
+        /// The name of the image's file.
+        image: &'a str,
+    },
+    /// To print the record of an image.
+    Show {
+        /// The name of the image's file.
+        image: &'a str,
     },
 }
 
@@ -36,24 +48,21 @@ fn number(alloc: Global, text: &str) -> Result<Option<u64>, NoMemory>
     }
 }
 
-/// Whether the word is `run`.
-fn is_run(word: &str) -> bool
-    ensures { IsTrue result ↔ (word.now ≡ codes "run") }
+/// Whether the word is this one.
+fn is(word: &str, text: &str) -> bool
+    ensures { IsTrue result ↔ (word.now ≡ text.now) }
 {
-    word == "run"
+    word == text
 }
 
-/// What the words ask for, `None` exactly where they are of no command.
-pub fn read_words(alloc: Global, words: &[String]) -> Result<Option<Words<'_>>, NoMemory>
-    ensures found { IfOk result (λ r. IfSome r (λ w. Says (map (λ s. string_bytes s) words.now) (command w))) }
-    ensures none { IfOk result (λ r. IfNone r ((c : Command) → Says (map (λ s. string_bytes s) words.now) c → ⊥)) }
+/// What the words behind `run` ask for.
+fn run_words(alloc: Global, rest: &[String]) -> Result<Option<Words<'_>>, NoMemory>
+    ensures found { IfOk result (λ r. IfSome r (λ w. Says (codes "run" ∷ map (λ s. string_bytes s) rest.now) (command w))) }
+    ensures none { IfOk result (λ r. IfNone r ((c : Command) → Says (codes "run" ∷ map (λ s. string_bytes s) rest.now) c → ⊥)) }
 {
-    let [first, image, script, start] = words else {
+    let [image, script, start] = rest else {
         return Ok(None);
     };
-    if !is_run(first.as_str()) {
-        return Ok(None);
-    }
     let Some(start) = number(alloc, start.as_str())? else {
         return Ok(None);
     };
@@ -62,4 +71,51 @@ pub fn read_words(alloc: Global, words: &[String]) -> Result<Option<Words<'_>>, 
         script: script.as_str(),
         start,
     }))
+}
+
+/// What the words behind `make` ask for.
+fn make_words(rest: &[String]) -> Option<Words<'_>>
+    ensures found { IfSome result (λ w. Says (codes "make" ∷ map (λ s. string_bytes s) rest.now) (command w)) }
+    ensures none { IfNone result ((c : Command) → Says (codes "make" ∷ map (λ s. string_bytes s) rest.now) c → ⊥) }
+{
+    let [config, image] = rest else {
+        return None;
+    };
+    Some(Words::Make {
+        config: config.as_str(),
+        image: image.as_str(),
+    })
+}
+
+/// What the words behind `show` ask for.
+fn show_words(rest: &[String]) -> Option<Words<'_>>
+    ensures found { IfSome result (λ w. Says (codes "show" ∷ map (λ s. string_bytes s) rest.now) (command w)) }
+    ensures none { IfNone result ((c : Command) → Says (codes "show" ∷ map (λ s. string_bytes s) rest.now) c → ⊥) }
+{
+    let [image] = rest else {
+        return None;
+    };
+    Some(Words::Show {
+        image: image.as_str(),
+    })
+}
+
+/// What the words ask for, `None` exactly where they are of no command.
+pub fn read_words(alloc: Global, words: &[String]) -> Result<Option<Words<'_>>, NoMemory>
+    ensures found { IfOk result (λ r. IfSome r (λ w. Says (map (λ s. string_bytes s) words.now) (command w))) }
+    ensures none { IfOk result (λ r. IfNone r ((c : Command) → Says (map (λ s. string_bytes s) words.now) c → ⊥)) }
+{
+    let [first, rest @ ..] = words else {
+        return Ok(None);
+    };
+    if is(first.as_str(), "run") {
+        return run_words(alloc, rest);
+    }
+    if is(first.as_str(), "make") {
+        return Ok(make_words(rest));
+    }
+    if is(first.as_str(), "show") {
+        return Ok(show_words(rest));
+    }
+    Ok(None)
 }

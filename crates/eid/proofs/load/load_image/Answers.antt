@@ -1,5 +1,5 @@
 -- What the file holds, by what was read of it.
-use Rattle.eid.specs.Works.{image_in}
+use Rattle.eid.specs.Inputs.{image_in}
 use Rattle.eid.proofs.Inputs.{image_stands, image_held, refused_image, image_long, image_absent, failed_read}
 use Rattle.eid.proofs.load.load_image.Goals as goal
 

@@ -1,5 +1,6 @@
 -- The words are of one command, and its call never ends in Usage.
-use Rattle.eid.proofs.Ends.{one_command, meets_for, never_usage}
+use Rattle.eid.proofs.Refusals.{meets_for, never_usage}
+use Rattle.eid.proofs.Spoken.{one_command}
 use Rattle.eid.proofs.program.program.Goals as goal
 
 pub returns-in-Ok-Some-clause-usage : goal.returns-in-Ok-Some-clause-usage

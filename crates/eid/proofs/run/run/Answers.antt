@@ -1,7 +1,7 @@
 -- Each end of a run, by what its steps promise.
 use Rattle.std.proofs.Common.{ap, Err}
-use Rattle.eid.proofs.Ends.{image_refused, script_refused, run_broke_off, run_done, run_not_stored, opened, read_after, read_back}
-use Rattle.eid.proofs.program.run.Goals as goal
+use Rattle.eid.proofs.EndsOfRun.{image_refused, script_refused, run_broke_off, run_done, run_not_stored, opened, read_after, read_back}
+use Rattle.eid.proofs.run.run.Goals as goal
 
 pub returns-in-Err : goal.returns-in-Err
 returns-in-Err g c = image_refused c.args.image.now c.args.script.now c.args.start _ _ _ c.in-Err.exit c.load_image.ensures.same c.in-Err.ensures.refused
@@ -19,7 +19,7 @@ returns-in-Err-run_script g c =
     let read = read_back _ _ c.args.script.now _ c.load_image.ensures.same c.in-Ok-load_script.ensures.lines in
     let did = rw (c.as_slice.ensures.value, c.new-device.ensures.cells) at c.in-Err-run_script.ensures.broke in
     let rose = rw c.in-Err-run_script.is at c.run_script.ensures.fault in
-    rw c.exit_of_run.ensures (run_broke_off c.args.image.now c.args.script.now c.args.start _ _ _ _ o.0 cells _ c.in-Err-run_script.error both read c.run_script.ensures.tells (did o.0 o.1.is_record) (λ e. rose (ap Err e)))
+    rw c.of_run.ensures (run_broke_off c.args.image.now c.args.script.now c.args.start _ _ _ _ o.0 cells _ c.in-Err-run_script.error both read c.run_script.ensures.tells (did o.0 o.1.is_record) (λ e. rose (ap Err e)))
 
 pub returns-in-Ok-write : goal.returns-in-Ok-write
 returns-in-Ok-write g c =
@@ -42,4 +42,4 @@ returns g c =
     let left = rw c.cells.ensures at c.in-Err-write.ensures.left in
     let there = rw c.in-Err-write.is at c.write.ensures.never_absent in
     let rose = rw c.in-Err-write.is at c.write.ensures.cause.fault in
-    rw c.exit_of_write.ensures (run_not_stored c.args.image.now c.args.script.now c.args.start _ _ _ _ _ o.0 cells _ _ c.in-Err-write.error both read c.run_script.ensures.tells (did o.0 o.1.is_record) left c.write.ensures.others (λ e. there (ap Err e)) (λ e. rose (ap Err e)))
+    rw c.of_write.ensures (run_not_stored c.args.image.now c.args.script.now c.args.start _ _ _ _ _ o.0 cells _ _ c.in-Err-write.error both read c.run_script.ensures.tells (did o.0 o.1.is_record) left c.write.ensures.others (λ e. there (ap Err e)) (λ e. rose (ap Err e)))

@@ -1,8 +1,6 @@
--- What the program ended in, and what it did.
-use Rattle.std.proofs.Common.{cond, eqb, eqb-true, slice_index, ◌≡◌, ◌≢◌, ℕ, ◌≤◌, Bool, true, false, IsTrue, List, [], ◌∷◌, length, Option, Some, None, Result, Ok, Err, refl, sym, ap, ◌∙◌, subst, arith, inl, inr}
-use Rattle.std.specs.Prelude.{IsSome, codes, decimal}
-use Rattle.std.specs.Str.Parse.{digits_value}
-use Rattle.std.proofs.lemmas.Fmt.{decimal_is_IsNumeral}
+-- What the run of a script ended in, and what it did.
+use Rattle.std.proofs.Common.{cond, eqb, eqb-true, slice_index, ◌≡◌, ◌≢◌, ℕ, ◌≤◌, Bool, true, false, IsTrue, List, length, Option, Some, None, Ok, Err, refl, ap, ◌∙◌, arith, inl, inr}
+use Rattle.std.specs.Prelude.{IsSome}
 use Rattle.eid_base.specs.declared.codes.RunError.{RunError}
 use Rattle.eid_base.specs.declared.codes.RunError.TheVariants as run
 use Rattle.eid_base.specs.declared.outside.IoError.{IoError}
@@ -17,49 +15,14 @@ use Rattle.eid_model.proofs.Journals.{one_journal}
 use Rattle.eid_script.specs.Scripts.{ScriptLine}
 use Rattle.eid_run.specs.Runs.{journal, DidLines, DidSomeLines}
 use Rattle.eid.specs.declared.exit.Exit.{Exit}
-use Rattle.eid.specs.declared.exit.Exit.TheVariants.{Done, Usage, FileFault, NoMemory, BadImage, BadScript, BadConfig, SinkFault, BadAnswers}
-use Rattle.eid.specs.Commands.{Command, Run, Says}
-use Rattle.eid.specs.Works.{image_in, script_in, expected, HasReason, IsRefused, IsOnlyJournal, DidNothing, BrokeOff, NotStored, IsEndOfRun, Meets, exit_broken, exit_not_stored}
-use Rattle.eid.proofs.Inputs.{image_of_cells}
-
--- a count that rose in a part of a call rose in the call
-pub rose_later : (before middle now : ℕ) → before ≤ middle → Rose middle now → Rose before now
-rose_later before middle now h r = omega (arith, h, r)
-
-pub rose_earlier : (before middle now : ℕ) → middle ≤ now → Rose before middle → Rose before now
-rose_earlier before middle now h r = omega (arith, h, r)
-
--- the same files, step by step
-pub same_twice : (old middle new : FolderSeen) → SameFiles old middle → SameFiles middle new → SameFiles old new
-same_twice old middle new p q = record {
-  tells = q.tells ∙ p.tells;
-  files = λ told name. q.files (rw p.tells told) name ∙ p.files told name;
-}
-
--- a refusal of an input is what the command ends in
-reason_of : {A : Type 0} (e : Exit) (tells told_of : Bool) (input : Result A Exit) (expect : Exit) (rose folder_rose sink_rose : Type 0) → (IsTrue tells → IsTrue told_of) → (IsTrue told_of → IsTrue tells) → (rose → folder_rose) → ((x : Exit) → IsTrue tells → input ≡ Err x → expect ≡ x) → IsRefused told_of input rose e → HasReason tells expect folder_rose sink_rose e
-reason_of Done tells told_of input expect rose folder_rose sink_rose to from rises is r = absurd r
-reason_of Usage tells told_of input expect rose folder_rose sink_rose to from rises is r = absurd r
-reason_of FileFault tells told_of input expect rose folder_rose sink_rose to from rises is (inl up) = inl (rises up)
-reason_of FileFault tells told_of input expect rose folder_rose sink_rose to from rises is (inr absent) = inr (from absent.0, is FileFault (from absent.0) absent.1)
-reason_of NoMemory tells told_of input expect rose folder_rose sink_rose to from rises is r = tt
-reason_of BadImage tells told_of input expect rose folder_rose sink_rose to from rises is r = λ told. is BadImage told (r (to told))
-reason_of (BadScript line) tells told_of input expect rose folder_rose sink_rose to from rises is r = λ told. is (BadScript line) told (r (to told))
-reason_of (BadConfig key) tells told_of input expect rose folder_rose sink_rose to from rises is r = absurd r
-reason_of SinkFault tells told_of input expect rose folder_rose sink_rose to from rises is r = absurd r
-reason_of (BadAnswers line) tells told_of input expect rose folder_rose sink_rose to from rises is r = absurd r
-
--- and nothing was done
-end_of : {A : Type 0} (e : Exit) (told_of : Bool) (input : Result A Exit) (rose : Type 0) (image script_name : List ℕ) (old new : FolderSeen) (before now : SinkSeen) → IsRefused told_of input rose e → DidNothing old new before now → IsEndOfRun image script_name old new before now e
-end_of Done told_of input rose image script_name old new before now r nothing = absurd r
-end_of Usage told_of input rose image script_name old new before now r nothing = absurd r
-end_of FileFault told_of input rose image script_name old new before now r nothing = inl nothing
-end_of NoMemory told_of input rose image script_name old new before now r nothing = inl nothing
-end_of BadImage told_of input rose image script_name old new before now r nothing = nothing
-end_of (BadScript line) told_of input rose image script_name old new before now r nothing = nothing
-end_of (BadConfig key) told_of input rose image script_name old new before now r nothing = absurd r
-end_of SinkFault told_of input rose image script_name old new before now r nothing = absurd r
-end_of (BadAnswers line) told_of input rose image script_name old new before now r nothing = absurd r
+use Rattle.eid.specs.declared.exit.Exit.TheVariants.{Done}
+use Rattle.eid.specs.Commands.{Run}
+use Rattle.eid.specs.Exits.{exit_broken, exit_not_stored}
+use Rattle.eid.specs.Inputs.{image_in, script_in, expected, IsRefused}
+use Rattle.eid.specs.Run.{IsOnlyJournal, RunBrokeOff, RunNotStored}
+use Rattle.eid.specs.Works.{Meets}
+use Rattle.eid.proofs.Inputs.{image_of_cells, some_of}
+use Rattle.eid.proofs.Refusals.{rose_later, same_twice, others_after, refused, refused_later}
 
 expected_image : (image script_name : List ℕ) (start : ℕ) (files : List ℕ → Option (List ℕ)) (x : Exit) → image_in (files image) ≡ Err x → expected (Run image script_name start) files ≡ x
 unfolding expected
@@ -73,15 +36,9 @@ expected_done : (image script_name : List ℕ) (start : ℕ) (files : List ℕ �
 unfolding expected
 expected_done image script_name start files opening lines stood read = rw (stood, read) refl
 
-nothing_done : (old new : FolderSeen) (sink : SinkSeen) → SameFiles old new → DidNothing old new sink sink
-nothing_done old new sink same = record { files = same; tells = refl; written = λ told. refl }
-
 -- the image was refused
 pub image_refused : (image script_name : List ℕ) (start : ℕ) (old new : FolderSeen) (sink : SinkSeen) (e : Exit) → SameFiles old new → IsRefused old.tells (image_in (old.file image)) (Rose old.faults new.faults) e → Meets (Run image script_name start) old new sink sink e
-image_refused image script_name start old new sink e same refused = record {
-  reason = reason_of e old.tells old.tells (image_in (old.file image)) _ _ _ _ (λ t. t) (λ t. t) (λ r. r) (λ x told is. expected_image image script_name start old.file x is) refused;
-  end = end_of e old.tells (image_in (old.file image)) _ image script_name old new sink sink refused (nothing_done old new sink same);
-}
+image_refused image script_name start old new sink e same refusal = refused (Run image script_name start) old new sink _ e same refusal (λ x is. expected_image image script_name start old.file x is)
 
 -- the inputs of a run: cells that stand for a record, and the lines of the script
 pub record Opened (image script_name : List ℕ) (old middle : FolderSeen) (opening : FullRecord) (cells : List ℕ) : Type 0 where
@@ -90,10 +47,6 @@ pub record Opened (image script_name : List ℕ) (old middle : FolderSeen) (open
   pub held : IsTrue old.tells → old.file image ≡ Some cells
   pub same : SameFiles old middle
   pub later : old.faults ≤ middle.faults
-
-some_of : (found : Option FullRecord) → IsSome found → (full : FullRecord) × (found ≡ Some full)
-some_of None is = absurd cc
-some_of (Some full) is = (full, refl)
 
 pub opened : (image script_name : List ℕ) (old middle : FolderSeen) (cells : List ℕ) → (length cells ≡ 65536) × IsSome (stands cells) → (IsTrue old.tells → old.file image ≡ Some cells) → SameFiles old middle → old.faults ≤ middle.faults → (opening : FullRecord) × Opened image script_name old middle opening cells
 opened image script_name old middle cells right held same later =
@@ -120,29 +73,19 @@ read_after image script_name old middle new opening cells o same later = record 
 
 -- the script was refused
 pub script_refused : (image script_name : List ℕ) (start : ℕ) (old middle new : FolderSeen) (sink : SinkSeen) (opening : FullRecord) (cells : List ℕ) (e : Exit) → Opened image script_name old middle opening cells → SameFiles middle new → IsRefused middle.tells (script_in (middle.file script_name)) (Rose middle.faults new.faults) e → Meets (Run image script_name start) old new sink sink e
-script_refused image script_name start old middle new sink opening cells e o second refused = record {
-  reason = reason_of e old.tells middle.tells (script_in (middle.file script_name)) _ _ _ _ (λ t. rw o.same.tells t) (λ t. rw (← o.same.tells) t) (λ r. rose_later old.faults middle.faults new.faults o.later r)
-      (λ x told is. expected_script image script_name start old.file opening x (o.stood told) (rw (o.same.files told script_name) at is)) refused;
-  end = end_of e middle.tells (script_in (middle.file script_name)) _ image script_name old new sink sink refused (nothing_done old new sink (same_twice old middle new o.same second));
-}
+script_refused image script_name start old middle new sink opening cells e o second refusal = refused_later (Run image script_name start) old middle new sink _ e o.same o.later second refusal
+    (λ x told is. expected_script image script_name start old.file opening x (o.stood told) (rw (o.same.files told script_name) at is))
 
 -- the run broke off
 pub run_broke_off : (image script_name : List ℕ) (start : ℕ) (old new : FolderSeen) (before now : SinkSeen) (opening : FullRecord) (cells : List ℕ) (lines : List ScriptLine) (error : RunError) → Opened image script_name old new opening cells → (IsTrue old.tells → script_in (old.file script_name) ≡ Ok lines) → now.tells ≡ before.tells → DidSomeLines opening lines cells before now → (error ≡ run.SinkFault → Rose before.faults now.faults) → Meets (Run image script_name start) old new before now (exit_broken error)
 run_broke_off image script_name start old new before now opening cells lines error o read tells did rose = at error rose
   where
-    end : BrokeOff image script_name old new before now
+    end : RunBrokeOff image script_name old new before now
     end = record { opening = opening; cells = cells; lines = lines; stood = o.stood; read = read; ran = did; tells = tells; files = o.same }
 
     at : (e : RunError) → (e ≡ run.SinkFault → Rose before.faults now.faults) → Meets (Run image script_name start) old new before now (exit_broken e)
     at run.SinkFault rose = record { reason = rose refl; end = end }
     at run.NoMemory rose = record { reason = tt; end = inr (inl end) }
-
--- other names, where first nothing changed
-others_after : (image : List ℕ) (old middle new : FolderSeen) → SameFiles old middle → SameOthers image middle new → SameOthers image old new
-others_after image old middle new same others = record {
-  tells = others.tells ∙ same.tells;
-  others = λ told other differs. others.others (rw same.tells told) other differs ∙ same.files told other;
-}
 
 chosen : (b : Bool) (found : Option FullRecord) (full : FullRecord) → cond b found None ≡ Some full → b ≡ true
 chosen true found full is = refl
@@ -179,7 +122,7 @@ run_done image script_name start old middle new before now opening cells new_cel
 pub run_not_stored : (image script_name : List ℕ) (start : ℕ) (old middle new : FolderSeen) (before now : SinkSeen) (opening : FullRecord) (cells new_cells : List ℕ) (lines : List ScriptLine) (error : IoError) → Opened image script_name old middle opening cells → (IsTrue old.tells → script_in (old.file script_name) ≡ Ok lines) → now.tells ≡ before.tells → DidLines opening lines cells new_cells before now → (IsTrue middle.tells → IsLeftBy (middle.file image) (new.file image) new_cells) → SameOthers image middle new → error ≢ io.Absent → (error ≡ io.Fault → Rose middle.faults new.faults) → Meets (Run image script_name start) old new before now (exit_not_stored error)
 run_not_stored image script_name start old middle new before now opening cells new_cells lines error o read tells did left others there rose = at error there rose
   where
-    end : NotStored image script_name old new before now
+    end : RunNotStored image script_name old new before now
     end = record {
       opening = opening;
       cells = cells;
@@ -198,23 +141,3 @@ run_not_stored image script_name start old middle new before now opening cells n
 -- what was read of a folder with the same files
 pub read_back : (old middle : FolderSeen) (name : List ℕ) (lines : List ScriptLine) → SameFiles old middle → (IsTrue middle.tells → script_in (middle.file name) ≡ Ok lines) → IsTrue old.tells → script_in (old.file name) ≡ Ok lines
 read_back old middle name lines same read = λ told. rw (same.files told name) at (read (rw same.tells told))
-
--- words are of one command
-pub one_command : (words : List (List ℕ)) (c d : Command) → Says words c → Says words d → c ≡ d
-one_command words (Run image script_name start) (Run other_image other_script other_start) p q =
-    let same : codes "run" ∷ image ∷ script_name ∷ decimal start ∷ [] ≡ codes "run" ∷ other_image ∷ other_script ∷ decimal other_start ∷ [] = sym p.is ∙ q.is in
-    let images : image ≡ other_image = cc in
-    let scripts : script_name ≡ other_script = cc in
-    let texts : decimal start ≡ decimal other_start = cc in
-    let starts : start ≡ other_start = sym (decimal_is_IsNumeral start p.numbers).1 ∙ ap (digits_value 10) texts ∙ (decimal_is_IsNumeral other_start q.numbers).1 in
-    cc
-
--- the call of a command does not end in Usage
-pub never_usage : (c : Command) (old new : FolderSeen) (before now : SinkSeen) (e : Exit) → e ≡ Usage → Meets c old new before now e → ⊥
-never_usage c old new before now e usage meets =
-    let reason = subst (λ (x : Exit). HasReason old.tells (expected c old.file) (Rose old.faults new.faults) (Rose before.faults now.faults) x) usage meets.reason in
-    reason
-
--- what the call of a command meets, it meets for that command by another name
-pub meets_for : (c d : Command) (old new : FolderSeen) (before now : SinkSeen) (e : Exit) → c ≡ d → Meets c old new before now e → Meets d old new before now e
-meets_for c d old new before now e same meets = subst (λ (x : Command). Meets x old new before now e) same meets

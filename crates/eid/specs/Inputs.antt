@@ -1,0 +1,76 @@
+-- What the input files give, and what a command ends in by them. This project's own.
+use Rattle.std.specs.Prelude.{◌≡◌, ℕ, ◌<◌, ◌≤◌, Bool, IsTrue, List, length, Option, Some, None, Result, Ok, Err, ◌⊎◌, IsSomeAnd}
+use Rattle.eid_record.specs.Plain.{FullRecord}
+use Rattle.eid_script.specs.Scripts.{ScriptLine, script_of}
+use Rattle.eid_perso.specs.Config.{PlainConfig}
+use Rattle.eid.specs.declared.exit.Exit.{Exit}
+use Rattle.eid.specs.declared.exit.Exit.TheVariants.{Done, Usage, FileFault, NoMemory, BadImage, BadScript, BadConfig, SinkFault, BadAnswers}
+use Rattle.eid.specs.declared.load.Read.{Read}
+use Rattle.eid.specs.declared.load.Read.TheVariants as read
+use Rattle.eid.specs.Commands.{Command, Run, Make, Show}
+use Rattle.eid.specs.Configs.{config_of}
+use Rattle.eid.specs.Images.{record_of}
+
+-- what is read of an input, or the exit that refuses it: absent, or not of its form
+abbrev pub or_refused : {A : Type 0} → Option A → Exit → Result A Exit
+or_refused None exit = Err exit
+or_refused (Some value) exit = Ok value
+
+abbrev pub or_bad : {A : Type 0} → (ℕ → Exit) → Result A ℕ → Result A Exit
+or_bad bad (Ok value) = Ok value
+or_bad bad (Err place) = Err (bad place)
+
+unfoldable pub image_in : Option (List ℕ) → Result FullRecord Exit
+image_in None = Err FileFault
+image_in (Some bytes) = or_refused (record_of bytes) BadImage
+
+unfoldable pub script_in : Option (List ℕ) → Result (List ScriptLine) Exit
+script_in None = Err FileFault
+script_in (Some text) = or_bad BadScript (script_of text)
+
+unfoldable pub config_in : Option (List ℕ) → Result PlainConfig Exit
+config_in None = Err FileFault
+config_in (Some text) = or_bad BadConfig (config_of text)
+
+-- the first refusal, or what comes later
+abbrev pub unless_refused : {A : Type 0} → Result A Exit → Exit → Exit
+unless_refused (Err exit) later = exit
+unless_refused (Ok value) later = later
+
+-- what a command ends in where nothing fails and memory is found: the inputs are read and checked in
+-- the order of the words
+unfoldable pub expected : Command → (List ℕ → Option (List ℕ)) → Exit
+expected (Run image script start) files = unless_refused (image_in (files image)) (unless_refused (script_in (files script)) Done)
+expected (Make config image) files = unless_refused (config_in (files config)) Done
+expected (Show image) files = unless_refused (image_in (files image)) Done
+
+-- what came of reading a file whole, up to a limit: its bytes, more of them than that, or a failure
+abbrev pub IsRead : Bool → Option (List ℕ) → ℕ → Type 0 → Read → Type 0
+IsRead tells file limit rose (read.Whole bytes) = (length bytes.items ≤ limit) × (IsTrue tells → file ≡ Some bytes.items)
+IsRead tells file limit rose read.TooLong = IsTrue tells → IsSomeAnd file (λ bytes. limit < length bytes)
+IsRead tells file limit rose read.NoMemory = Unit {0}
+IsRead tells file limit rose read.Failed = rose ⊎ (IsTrue tells × (file ≡ None))
+
+-- an input was refused: memory, a fault, or what the file is
+abbrev pub IsRefused : {A : Type 0} → Bool → Result A Exit → Type 0 → Exit → Type 0
+IsRefused tells input rose NoMemory = Unit {0}
+IsRefused tells input rose FileFault = rose ⊎ (IsTrue tells × (input ≡ Err FileFault))
+IsRefused tells input rose SinkFault = ⊥
+IsRefused tells input rose Done = ⊥
+IsRefused tells input rose Usage = ⊥
+IsRefused tells input rose BadImage = IsTrue tells → input ≡ Err BadImage
+IsRefused tells input rose (BadScript line) = IsTrue tells → input ≡ Err (BadScript line)
+IsRefused tells input rose (BadConfig key) = IsTrue tells → input ≡ Err (BadConfig key)
+IsRefused tells input rose (BadAnswers line) = ⊥
+
+-- the exit names the line of a script, or the key of a configuration, that is none
+abbrev pub IsBad : {A : Type 0} → Exit → Result A Exit → Type 0
+IsBad (BadScript line) said = said ≡ Err (BadScript line)
+IsBad (BadConfig key) said = said ≡ Err (BadConfig key)
+IsBad Done said = ⊥
+IsBad Usage said = ⊥
+IsBad FileFault said = ⊥
+IsBad NoMemory said = ⊥
+IsBad BadImage said = ⊥
+IsBad SinkFault said = ⊥
+IsBad (BadAnswers line) said = ⊥

@@ -1,0 +1,28 @@
+//! The command `make`.
+ghost use Rattle.eid_base.specs.Seen.{SinkSeen};
+ghost use Rattle.eid.specs.Commands.{Make};
+ghost use Rattle.eid.specs.Works.{Meets};
+
+use crate::exit::Exit;
+use crate::load::load_config;
+use eid_base::Folder;
+use eid_perso::image_of;
+use std::alloc::Global;
+
+/// Makes the image of a configuration: reads and checks the configuration, and stores the image. Prints
+/// nothing, whatever the sink is.
+pub fn make<F: Folder>(alloc: Global, config: &str, image: &str, folder: &mut F) -> Exit
+    ensures { (sink : SinkSeen) → Meets (Make config.now image.now) (F.seen folder.old) (F.seen folder.new) sink sink result }
+{
+    let config = match load_config(alloc, folder, config) {
+        Ok(config) => config,
+        Err(exit) => return exit,
+    };
+    let Ok(cells) = image_of(alloc, &config) else {
+        return Exit::NoMemory;
+    };
+    match folder.write(image, cells.as_slice()) {
+        Ok(()) => Exit::Done,
+        Err(error) => Exit::of_write(error),
+    }
+}
