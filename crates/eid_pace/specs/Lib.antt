@@ -1,0 +1,11 @@
+pub mod Rules
+pub mod Keys
+pub mod States
+pub mod Selections
+pub mod SelectionIn
+pub mod Asking
+pub mod NonceEnds
+pub mod MapEnds
+pub mod AgreeEnds
+pub mod Check
+pub mod View

@@ -1,0 +1,50 @@
+-- The selection that a body is, as a function, where it is one.
+use Rattle.std.specs.Prelude.{ℕ, ◌==◌, ◌&&◌, Bool, false, List, [], ◌∷◌, length, drop, Option, Some, None, option_map, option_and_then, if◌then◌else◌}
+use Rattle.std.specs.Str.{bytes_eq}
+use Rattle.eid_bits.specs.Identifiers.{known_bytes}
+use Rattle.eid_bits.specs.declared.identifier.Known.TheVariants.{PaceAes128}
+use Rattle.eid_tlv.specs.Lists.{values}
+use Rattle.eid_tlv.specs.ListIn.{list_in}
+use Rattle.eid_pace.specs.Selections.{PlainSelection, template_value}
+
+-- one value, the protocol
+abbrev pub is_protocol : List (List ℕ) → Bool
+is_protocol [] = false
+is_protocol (value ∷ []) = bytes_eq value (known_bytes PaceAes128)
+is_protocol (value ∷ other ∷ later) = false
+
+abbrev pub one_byte : List ℕ → Option ℕ
+one_byte [] = None
+one_byte (byte ∷ []) = Some byte
+one_byte (byte ∷ other ∷ later) = None
+
+-- one value of one byte
+abbrev pub reference_in : List (List ℕ) → Option ℕ
+reference_in [] = None
+reference_in (value ∷ []) = one_byte value
+reference_in (value ∷ other ∷ later) = None
+
+-- the five bytes behind the thirteen that say the type
+abbrev pub template_in : List ℕ → Option (List ℕ)
+template_in value =
+    let template = drop 13 value in
+    if length template == 5 && bytes_eq value (template_value template) then Some template else None
+
+-- no value, or one with a template
+abbrev pub template_if_any : List (List ℕ) → Option (Option (List ℕ))
+template_if_any [] = Some None
+template_if_any (value ∷ []) = option_map Some (template_in value)
+template_if_any (value ∷ other ∷ later) = None
+
+abbrev pub selection_of : Option ℕ → Option (Option (List ℕ)) → Option PlainSelection
+selection_of None template = None
+selection_of (Some reference) None = None
+selection_of (Some reference) (Some template) = Some (record { reference = reference; template = template })
+
+-- by the values of 80, 83 and 7F4C
+abbrev pub selection_by : List (List ℕ) → List (List ℕ) → List (List ℕ) → Option PlainSelection
+selection_by protocols references templates =
+    if is_protocol protocols then selection_of (reference_in references) (template_if_any templates) else None
+
+unfoldable pub selection_in : List ℕ → Option PlainSelection
+selection_in body = option_and_then (λ list. selection_by (values 0x80 list) (values 0x83 list) (values 0x7F4C list)) (list_in body)

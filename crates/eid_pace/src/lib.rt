@@ -1,0 +1,21 @@
+//! PACE, the chip's side (BSI TR-03110-2 and TR-03110-3, generic mapping): a selection and four steps,
+//! each of which consumes the state that the step before it left. So far the password is the CAN.
+#![tactic(auto)]
+
+mod agreed;
+mod choice;
+mod chosen;
+mod keys;
+mod mapped;
+mod nonce_sent;
+mod rules;
+mod selection;
+
+pub use agreed::{Agreed, Done};
+pub use chosen::Chosen;
+pub use mapped::Mapped;
+pub use nonce_sent::NonceSent;
+pub use selection::law_selection;
+
+#[cfg(test)]
+mod tests;

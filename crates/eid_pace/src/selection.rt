@@ -1,0 +1,115 @@
+//! The body that selects PACE (BSI TR-03110-3, MSE:Set AT).
+ghost use Rattle.std.specs.Prelude.{◌≡◌, ℕ, List, [], ◌∷◌, length, Option, Some, IfSome, IsSomeAnd, IsTrue, ◌↔◌, option_map};
+ghost use Rattle.eid_bits.specs.Identifiers.{known_bytes};
+ghost use Rattle.eid_bits.specs.Template.{template_bytes};
+ghost use Rattle.eid_tlv.specs.Lists.{HasValues};
+ghost use Rattle.eid_pace.specs.Selections.{HasTemplate, IsPaceSelection, PlainSelection, template_value};
+ghost use Rattle.eid_pace.specs.SelectionIn.{selection_in};
+ghost use Rattle.eid_pace.specs.View.{selection_view};
+
+use eid_bits::{Known, Template};
+use eid_tlv::{Found, find};
+
+const PROTOCOL: u16 = 0x80;
+
+const REFERENCE: u16 = 0x83;
+
+const TEMPLATE: u16 = 0x7F4C;
+
+/// What a selection names: a password by its reference, and the holder's template where there is one.
+#[derive(Clone, Copy, Debug)]
+pub struct Selection {
+    pub reference: u8,
+    pub template: Option<Template>,
+}
+
+/// The selection that the body is, if it is one.
+pub fn read_selection(body: &[u8]) -> Option<Selection>
+    ensures { option_map selection_view result ≡ selection_in body.now }
+{
+    if !names_protocol(body) {
+        return None;
+    }
+    let Some(reference) = read_reference(body) else {
+        return None;
+    };
+    let Some(template) = find_template(body) else {
+        return None;
+    };
+    Some(Selection {
+        reference,
+        template,
+    })
+}
+
+/// The value that stands with the tag, where the body is a list of data objects and one of them has it.
+fn only_value(body: &[u8], tag: u16) -> Option<&[u8]>
+    ensures found { IfSome result (λ value. HasValues tag (value.now ∷ []) body.now) }
+    ensures only { (value : List ℕ) → HasValues tag (value ∷ []) body.now → IsSomeAnd result (λ found. found.now ≡ value) }
+{
+    match find(body, tag) {
+        Found::Once(value) => Some(value),
+        _ => None,
+    }
+}
+
+/// Whether the body has one 80, with the protocol.
+fn names_protocol(body: &[u8]) -> bool
+    ensures { IsTrue result ↔ HasValues 0x80 (known_bytes Known.PaceAes128 ∷ []) body.now }
+{
+    match only_value(body, PROTOCOL) {
+        Some(protocol) => protocol == Known::PaceAes128.bytes(),
+        None => false,
+    }
+}
+
+/// The byte of the one 83.
+fn read_reference(body: &[u8]) -> Option<u8>
+    ensures found { IfSome result (λ reference. HasValues 0x83 ((reference ∷ []) ∷ []) body.now) }
+    ensures only { (reference : ℕ) → HasValues 0x83 ((reference ∷ []) ∷ []) body.now → result ≡ Some reference }
+{
+    let Some(value) = only_value(body, REFERENCE) else {
+        return None;
+    };
+    match value {
+        [reference] => Some(*reference),
+        _ => None,
+    }
+}
+
+/// The template of the one 7F4C, or that there is no 7F4C; `None` where another thing stands there.
+fn find_template(body: &[u8]) -> Option<Option<Template>>
+    ensures found { IfSome result (λ template. HasTemplate body.now (option_map template_bytes template)) }
+    ensures only { (template : Option (List ℕ)) → HasTemplate body.now template → IsSomeAnd result (λ found. option_map template_bytes found ≡ template) }
+{
+    match find(body, TEMPLATE) {
+        Found::Absent => Some(None),
+        Found::Once(value) => match read_template(value) {
+            Some(template) => Some(Some(template)),
+            None => None,
+        },
+        _ => None,
+    }
+}
+
+/// What stands before the template in 7F4C {06 its type, 53 the template}.
+const BEFORE_TEMPLATE: [u8; 13] = [0x06, 9, 0x04, 0x00, 0x7F, 0x00, 0x07, 3, 1, 2, 2, 0x53, 5];
+
+/// The template in the value of a 7F4C.
+fn read_template(value: &[u8]) -> Option<Template>
+    ensures found { IfSome result (λ template. value.now ≡ template_value (template_bytes template)) }
+    ensures only { (template : List ℕ) → length template ≡ 5 → value.now ≡ template_value template → IsSomeAnd result (λ found. template_bytes found ≡ template) }
+{
+    let Some(bytes) = value.strip_prefix(&BEFORE_TEMPLATE) else {
+        return None;
+    };
+    let Ok(template) = Template::from_bytes(bytes) else {
+        return None;
+    };
+    Some(template)
+}
+
+/// The definition of the selection that a body is, as a function, gives exactly that selection.
+pub fn law_selection()
+    ensures { (body : List ℕ) (selection : PlainSelection) → selection_in body ≡ Some selection ↔ IsPaceSelection body selection }
+{}

@@ -1,0 +1,9 @@
+//! The passwords of the eID chip, as PACE takes them (BSI TR-03110-2).
+#![tactic(auto)]
+
+mod passwords;
+
+pub use passwords::digits;
+
+#[cfg(test)]
+mod tests;

@@ -1,0 +1,9 @@
+pub mod PartFacts
+pub mod Lengths
+pub mod Ends
+pub mod Opening
+pub mod Lists
+pub mod SealedFacts
+pub mod LeFacts
+pub mod ProtectedFacts
+pub mod OneProtected
