@@ -1,5 +1,6 @@
--- What the run of a script ended in, and what it did.
-use Rattle.std.proofs.Common.{cond, eqb, eqb-true, slice_index, ◌≡◌, ◌≢◌, ℕ, ◌≤◌, Bool, true, false, IsTrue, List, length, Option, Some, None, Ok, Err, refl, ap, ◌∙◌, arith, inl, inr}
+-- What the run of a script ended in, and what it did: for the commands that read an image and a script,
+-- and then perhaps more.
+use Rattle.std.proofs.Common.{cond, eqb, eqb-true, slice_index, ◌≡◌, ◌≢◌, ℕ, ◌≤◌, Bool, true, false, IsTrue, List, [], length, Option, Some, None, Ok, Err, refl, ap, ◌∙◌, arith, inl, inr}
 use Rattle.std.specs.Prelude.{IsSome}
 use Rattle.eid_base.specs.declared.codes.RunError.{RunError}
 use Rattle.eid_base.specs.declared.codes.RunError.TheVariants as run
@@ -9,47 +10,61 @@ use Rattle.eid_base.specs.Faults.{Rose}
 use Rattle.eid_base.specs.Seen.{FolderSeen, SinkSeen, SameFiles, SameOthers, IsLeftBy}
 use Rattle.eid_record.specs.Plain.{FullRecord}
 use Rattle.eid_store.specs.Stands.{stands, two_slot_stands}
-use Rattle.eid_model.specs.Moments.{PlainMoment, AreSteady}
+use Rattle.eid_copro.specs.Model.{model_answer}
+use Rattle.eid_copro.specs.Script.{script_answer}
+use Rattle.eid_copro.specs.Told.{Source, Told, Start, Listed, KeepsTo, AnswersFrom}
+use Rattle.eid_copro.specs.declared.ask.Answer.{Answer}
+use Rattle.eid_copro.specs.declared.ask.Ask.{Ask}
+use Rattle.eid_model.specs.Moments.{PlainMoment, asked, AreSteady}
 use Rattle.eid_model.specs.Legal.{AreLegal, kept}
 use Rattle.eid_model.proofs.Journals.{one_journal}
 use Rattle.eid_script.specs.Scripts.{ScriptLine}
 use Rattle.eid_run.specs.Runs.{journal, DidLines, DidSomeLines}
 use Rattle.eid.specs.declared.exit.Exit.{Exit}
-use Rattle.eid.specs.declared.exit.Exit.TheVariants.{Done}
-use Rattle.eid.specs.Commands.{Run}
+use Rattle.eid.specs.declared.exit.Exit.TheVariants.{Done, Usage, FileFault, NoMemory, BadImage, BadScript, BadConfig, SinkFault, BadAnswers}
+use Rattle.eid.specs.Commands.{Command, Run, Replay}
 use Rattle.eid.specs.Exits.{exit_broken, exit_not_stored}
-use Rattle.eid.specs.Inputs.{image_in, script_in, expected, IsRefused}
-use Rattle.eid.specs.Run.{IsOnlyJournal, RunBrokeOff, RunNotStored}
-use Rattle.eid.specs.Works.{Meets}
+use Rattle.eid.specs.Inputs.{image_in, script_in, answers_in, unless_refused, expected, IsRefused}
+use Rattle.eid.specs.Run.{Setup, IsGiven, RanWhole, IsOnlyJournal, RunFinished, RunBrokeOff, RunNotStored, HasSource, IsEndOfRun}
+use Rattle.eid.specs.Works.{Finished, BrokeOff, NotStored, Meets}
 use Rattle.eid.proofs.Inputs.{image_of_cells, some_of}
 use Rattle.eid.proofs.Refusals.{rose_later, same_twice, others_after, refused, refused_later}
 
-expected_image : (image script_name : List ℕ) (start : ℕ) (files : List ℕ → Option (List ℕ)) (x : Exit) → image_in (files image) ≡ Err x → expected (Run image script_name start) files ≡ x
-unfolding expected
-expected_image image script_name start files x is = rw is refl
+-- The command reads an image and then a script, and what it ends in where these are good.
+pub record ReadsBoth (c : Command) (image script_name : List ℕ) (files : List ℕ → Option (List ℕ)) (rest : Exit) : Type 0 where
+  pub is : expected c files ≡ unless_refused (image_in (files image)) (unless_refused (script_in (files script_name)) rest)
 
-expected_script : (image script_name : List ℕ) (start : ℕ) (files : List ℕ → Option (List ℕ)) (opening : FullRecord) (x : Exit) → image_in (files image) ≡ Ok opening → script_in (files script_name) ≡ Err x → expected (Run image script_name start) files ≡ x
+pub run_reads : (image script_name : List ℕ) (start : ℕ) (files : List ℕ → Option (List ℕ)) → ReadsBoth (Run image script_name start) image script_name files Done
 unfolding expected
-expected_script image script_name start files opening x stood is = rw (stood, is) refl
+run_reads image script_name start files = record { is = refl }
 
-expected_done : (image script_name : List ℕ) (start : ℕ) (files : List ℕ → Option (List ℕ)) (opening : FullRecord) (lines : List ScriptLine) → image_in (files image) ≡ Ok opening → script_in (files script_name) ≡ Ok lines → expected (Run image script_name start) files ≡ Done
+pub replay_reads : (image script_name answers_name : List ℕ) (files : List ℕ → Option (List ℕ)) → ReadsBoth (Replay image script_name answers_name) image script_name files (unless_refused (answers_in (files answers_name)) Done)
 unfolding expected
-expected_done image script_name start files opening lines stood read = rw (stood, read) refl
+replay_reads image script_name answers_name files = record { is = refl }
+
+expected_image : (c : Command) (image script_name : List ℕ) (files : List ℕ → Option (List ℕ)) (rest x : Exit) → ReadsBoth c image script_name files rest → image_in (files image) ≡ Err x → expected c files ≡ x
+expected_image c image script_name files rest x reads is = rw is at reads.is
+
+expected_script : (c : Command) (image script_name : List ℕ) (files : List ℕ → Option (List ℕ)) (rest x : Exit) (opening : FullRecord) → ReadsBoth c image script_name files rest → image_in (files image) ≡ Ok opening → script_in (files script_name) ≡ Err x → expected c files ≡ x
+expected_script c image script_name files rest x opening reads stood is = rw (stood, is) at reads.is
+
+expected_rest : (c : Command) (image script_name : List ℕ) (files : List ℕ → Option (List ℕ)) (rest : Exit) (opening : FullRecord) (lines : List ScriptLine) → ReadsBoth c image script_name files rest → image_in (files image) ≡ Ok opening → script_in (files script_name) ≡ Ok lines → expected c files ≡ rest
+expected_rest c image script_name files rest opening lines reads stood is = rw (stood, is) at reads.is
 
 -- the image was refused
-pub image_refused : (image script_name : List ℕ) (start : ℕ) (old new : FolderSeen) (sink : SinkSeen) (e : Exit) → SameFiles old new → IsRefused old.tells (image_in (old.file image)) (Rose old.faults new.faults) e → Meets (Run image script_name start) old new sink sink e
-image_refused image script_name start old new sink e same refusal = refused (Run image script_name start) old new sink _ e same refusal (λ x is. expected_image image script_name start old.file x is)
+pub image_refused : (c : Command) (image script_name : List ℕ) (old new : FolderSeen) (sink : SinkSeen) (rest e : Exit) → ReadsBoth c image script_name old.file rest → SameFiles old new → IsRefused old.tells (image_in (old.file image)) (Rose old.faults new.faults) e → Meets c old new sink sink e
+image_refused c image script_name old new sink rest e reads same refusal = refused c old new sink _ e same refusal (λ x is. expected_image c image script_name old.file rest x reads is)
 
--- the inputs of a run: cells that stand for a record, and the lines of the script
-pub record Opened (image script_name : List ℕ) (old middle : FolderSeen) (opening : FullRecord) (cells : List ℕ) : Type 0 where
+-- an image that was read: cells that stand for a record
+pub record Opened (image : List ℕ) (old middle : FolderSeen) (opening : FullRecord) (cells : List ℕ) : Type 0 where
   pub is_record : stands cells ≡ Some opening
   pub stood : IsTrue old.tells → image_in (old.file image) ≡ Ok opening
   pub held : IsTrue old.tells → old.file image ≡ Some cells
   pub same : SameFiles old middle
   pub later : old.faults ≤ middle.faults
 
-pub opened : (image script_name : List ℕ) (old middle : FolderSeen) (cells : List ℕ) → (length cells ≡ 65536) × IsSome (stands cells) → (IsTrue old.tells → old.file image ≡ Some cells) → SameFiles old middle → old.faults ≤ middle.faults → (opening : FullRecord) × Opened image script_name old middle opening cells
-opened image script_name old middle cells right held same later =
+pub opened : (image : List ℕ) (old middle : FolderSeen) (cells : List ℕ) → (length cells ≡ 65536) × IsSome (stands cells) → (IsTrue old.tells → old.file image ≡ Some cells) → SameFiles old middle → old.faults ≤ middle.faults → (opening : FullRecord) × Opened image old middle opening cells
+opened image old middle cells right held same later =
     let found = some_of (stands cells) right.1 in (
       found.0,
       record {
@@ -61,9 +76,9 @@ opened image script_name old middle cells right held same later =
       },
     )
 
--- and the script was read after it
-pub read_after : (image script_name : List ℕ) (old middle new : FolderSeen) (opening : FullRecord) (cells : List ℕ) → Opened image script_name old middle opening cells → SameFiles middle new → middle.faults ≤ new.faults → Opened image script_name old new opening cells
-read_after image script_name old middle new opening cells o same later = record {
+-- and another file was read after it
+pub read_after : (image : List ℕ) (old middle new : FolderSeen) (opening : FullRecord) (cells : List ℕ) → Opened image old middle opening cells → SameFiles middle new → middle.faults ≤ new.faults → Opened image old new opening cells
+read_after image old middle new opening cells o same later = record {
   is_record = o.is_record;
   stood = o.stood;
   held = o.held;
@@ -72,20 +87,14 @@ read_after image script_name old middle new opening cells o same later = record 
 }
 
 -- the script was refused
-pub script_refused : (image script_name : List ℕ) (start : ℕ) (old middle new : FolderSeen) (sink : SinkSeen) (opening : FullRecord) (cells : List ℕ) (e : Exit) → Opened image script_name old middle opening cells → SameFiles middle new → IsRefused middle.tells (script_in (middle.file script_name)) (Rose middle.faults new.faults) e → Meets (Run image script_name start) old new sink sink e
-script_refused image script_name start old middle new sink opening cells e o second refusal = refused_later (Run image script_name start) old middle new sink _ e o.same o.later second refusal
-    (λ x told is. expected_script image script_name start old.file opening x (o.stood told) (rw (o.same.files told script_name) at is))
+pub script_refused : (c : Command) (image script_name : List ℕ) (old middle new : FolderSeen) (sink : SinkSeen) (rest : Exit) (opening : FullRecord) (cells : List ℕ) (e : Exit) → ReadsBoth c image script_name old.file rest → Opened image old middle opening cells → SameFiles middle new → IsRefused middle.tells (script_in (middle.file script_name)) (Rose middle.faults new.faults) e → Meets c old new sink sink e
+script_refused c image script_name old middle new sink rest opening cells e reads o second refusal = refused_later c old middle new sink _ e o.same o.later second refusal
+    (λ x told is. expected_script c image script_name old.file rest x opening reads (o.stood told) (rw (o.same.files told script_name) at is))
 
--- the run broke off
-pub run_broke_off : (image script_name : List ℕ) (start : ℕ) (old new : FolderSeen) (before now : SinkSeen) (opening : FullRecord) (cells : List ℕ) (lines : List ScriptLine) (error : RunError) → Opened image script_name old new opening cells → (IsTrue old.tells → script_in (old.file script_name) ≡ Ok lines) → now.tells ≡ before.tells → DidSomeLines opening lines cells before now → (error ≡ run.SinkFault → Rose before.faults now.faults) → Meets (Run image script_name start) old new before now (exit_broken error)
-run_broke_off image script_name start old new before now opening cells lines error o read tells did rose = at error rose
-  where
-    end : RunBrokeOff image script_name old new before now
-    end = record { opening = opening; cells = cells; lines = lines; stood = o.stood; read = read; ran = did; tells = tells; files = o.same }
-
-    at : (e : RunError) → (e ≡ run.SinkFault → Rose before.faults now.faults) → Meets (Run image script_name start) old new before now (exit_broken e)
-    at run.SinkFault rose = record { reason = rose refl; end = end }
-    at run.NoMemory rose = record { reason = tt; end = inr (inl end) }
+-- the answers were refused
+pub answers_refused : (image script_name answers_name : List ℕ) (old middle new : FolderSeen) (sink : SinkSeen) (opening : FullRecord) (cells : List ℕ) (lines : List ScriptLine) (e : Exit) → Opened image old middle opening cells → (IsTrue old.tells → script_in (old.file script_name) ≡ Ok lines) → SameFiles middle new → IsRefused middle.tells (answers_in (middle.file answers_name)) (Rose middle.faults new.faults) e → Meets (Replay image script_name answers_name) old new sink sink e
+answers_refused image script_name answers_name old middle new sink opening cells lines e o read third refusal = refused_later (Replay image script_name answers_name) old middle new sink _ e o.same o.later third refusal
+    (λ x told is. expected_rest (Replay image script_name answers_name) image script_name old.file _ opening lines (replay_reads image script_name answers_name old.file) (o.stood told) (read told) ∙ ap (λ r. unless_refused r Done) (rw (o.same.files told answers_name) at is))
 
 chosen : (b : Bool) (found : Option FullRecord) (full : FullRecord) → cond b found None ≡ Some full → b ≡ true
 chosen true found full is = refl
@@ -97,47 +106,135 @@ unfolding two_slot_stands
 layout_of cells full is = eqb-true (slice_index cells 0) 1 (chosen (eqb (slice_index cells 0) 1) _ full is)
 
 -- the only steady journal
-only_journal : (opening : FullRecord) (moments : List PlainMoment) → AreLegal opening moments → AreSteady moments → IsOnlyJournal opening moments
-only_journal opening moments legal steady = (steady, λ other of_other its_steady asked. one_journal opening other moments of_other legal its_steady steady asked)
+only_journal : (source : Source) (opening : FullRecord) (moments : List PlainMoment) → AreLegal opening moments → AreSteady moments → AnswersFrom source (asked moments) → IsOnlyJournal source opening moments
+only_journal source opening moments legal steady told = (steady, λ other of_other its_steady same answered. one_journal source opening other moments of_other legal its_steady steady same answered told)
+
+-- the two coprocessors have their answers from their sources
+pub model_source : (start : ℕ) (told : Told) → told ≡ Start start → HasSource told (model_answer start)
+model_source start told is = λ log keeps. rw is at keeps
+
+pub script_source : (answers : List Answer) (told : Told) → told ≡ Listed answers → HasSource told (script_answer answers)
+script_source answers told is = λ log keeps. rw is at keeps
+
+-- the log of a coprocessor that began with an empty one, and tells what it told then, is of its source
+pub answers_from : (source : Source) (told told_now : Told) (log : List Ask) (moments : List PlainMoment) → HasSource told source → told_now ≡ told → KeepsTo told_now log → log ≡ asked moments → AnswersFrom source (asked moments)
+answers_from source told told_now log moments has same keeps logged = has (asked moments) (rw (same, logged) at keeps)
+
+-- the script ran to its end
+pub ran_whole : (source : Source) (s : Setup) (told told_now : Told) (log : List Ask) (new_cells : List ℕ) (before now : SinkSeen) → HasSource told source → told_now ≡ told → KeepsTo told_now log → DidLines s.opening s.lines s.cells new_cells [] log before now → now.tells ≡ before.tells → RanWhole source s new_cells before now
+ran_whole source s told told_now log new_cells before now has same keeps did tells = record {
+  log = log;
+  did = did;
+  told = answers_from source told told_now log (journal did.happened) has same keeps did.logged;
+  tells = tells;
+}
+
+-- the run broke off
+pub broke_off : (image : List ℕ) (source : Source) (s : Setup) (folder : FolderSeen) (before now : SinkSeen) (error : RunError) (told told_now : Told) (log : List Ask) → HasSource told source → told_now ≡ told → KeepsTo told_now log → DidSomeLines s.opening s.lines s.cells [] log before now → now.tells ≡ before.tells → (error ≡ run.SinkFault → Rose before.faults now.faults) → IsEndOfRun image source s folder folder before now (exit_broken error)
+broke_off image source s folder before now error told told_now log has same keeps did tells rose = at error rose
+  where
+    end : RunBrokeOff source s folder folder before now
+    end = record {
+      log = log;
+      did = did;
+      told = answers_from source told told_now log (journal did.happened) has same keeps did.logged;
+      tells = tells;
+      files = record { tells = refl; files = λ told name. refl };
+    }
+
+    at : (e : RunError) → (e ≡ run.SinkFault → Rose before.faults now.faults) → IsEndOfRun image source s folder folder before now (exit_broken e)
+    at run.SinkFault rose = (end, rose refl)
+    at run.NoMemory rose = inl end
 
 -- all was done
-pub run_done : (image script_name : List ℕ) (start : ℕ) (old middle new : FolderSeen) (before now : SinkSeen) (opening : FullRecord) (cells new_cells : List ℕ) (lines : List ScriptLine) → Opened image script_name old middle opening cells → (IsTrue old.tells → script_in (old.file script_name) ≡ Ok lines) → now.tells ≡ before.tells → DidLines opening lines cells new_cells before now → length new_cells ≡ 65536 → slice_index new_cells 0 ≡ slice_index cells 0 → (IsTrue middle.tells → new.file image ≡ Some new_cells) → SameOthers image middle new → Meets (Run image script_name start) old new before now Done
-run_done image script_name start old middle new before now opening cells new_cells lines o read tells did long layout stored others = record {
-  reason = λ told. expected_done image script_name start old.file opening lines (o.stood told) (read told);
-  end = record {
-    opening = opening;
-    cells = cells;
-    new_cells = new_cells;
-    whole = record { lines = lines; stood = o.stood; held = o.held; read = read; ran = did };
-    only = only_journal opening (journal did.happened) did.legal (did.steady (layout_of cells opening o.is_record));
-    tells = tells;
-    stored = λ told. stored (rw o.same.tells told);
-    stands = image_of_cells new_cells (kept opening (journal did.happened)) long did.cells;
-    layout = layout;
-    others = others_after image old middle new o.same others;
-  };
+pub all_done : (image : List ℕ) (source : Source) (s : Setup) (old new : FolderSeen) (before now : SinkSeen) (new_cells : List ℕ) → stands s.cells ≡ Some s.opening → RanWhole source s new_cells before now → length new_cells ≡ 65536 → slice_index new_cells 0 ≡ slice_index s.cells 0 → (IsTrue old.tells → new.file image ≡ Some new_cells) → SameOthers image old new → RunFinished image source s old new before now
+all_done image source s old new before now new_cells stood ran long layout stored others = record {
+  new_cells = new_cells;
+  ran = ran;
+  only = only_journal source s.opening (journal ran.did.happened) ran.did.legal (ran.did.steady (layout_of s.cells s.opening stood)) ran.told;
+  stored = stored;
+  stands = image_of_cells new_cells (kept s.opening (journal ran.did.happened)) long ran.did.cells;
+  layout = layout;
+  others = others;
 }
 
 -- the image was not stored
-pub run_not_stored : (image script_name : List ℕ) (start : ℕ) (old middle new : FolderSeen) (before now : SinkSeen) (opening : FullRecord) (cells new_cells : List ℕ) (lines : List ScriptLine) (error : IoError) → Opened image script_name old middle opening cells → (IsTrue old.tells → script_in (old.file script_name) ≡ Ok lines) → now.tells ≡ before.tells → DidLines opening lines cells new_cells before now → (IsTrue middle.tells → IsLeftBy (middle.file image) (new.file image) new_cells) → SameOthers image middle new → error ≢ io.Absent → (error ≡ io.Fault → Rose middle.faults new.faults) → Meets (Run image script_name start) old new before now (exit_not_stored error)
-run_not_stored image script_name start old middle new before now opening cells new_cells lines error o read tells did left others there rose = at error there rose
+pub not_stored : (image : List ℕ) (source : Source) (s : Setup) (old new : FolderSeen) (before now : SinkSeen) (new_cells : List ℕ) (error : IoError) → RanWhole source s new_cells before now → (IsTrue old.tells → IsLeftBy (old.file image) (new.file image) new_cells) → SameOthers image old new → error ≢ io.Absent → (error ≡ io.Fault → Rose old.faults new.faults) → IsEndOfRun image source s old new before now (exit_not_stored error)
+not_stored image source s old new before now new_cells error ran left others there rose = at error there rose
   where
-    end : RunNotStored image script_name old new before now
-    end = record {
-      opening = opening;
-      cells = cells;
-      new_cells = new_cells;
-      whole = record { lines = lines; stood = o.stood; held = o.held; read = read; ran = did };
-      tells = tells;
-      left = λ told. rw (o.same.files told image) at (left (rw o.same.tells told));
-      others = others_after image old middle new o.same others;
-    }
+    end : RunNotStored image source s old new before now
+    end = record { new_cells = new_cells; ran = ran; left = left; others = others }
 
-    at : (e : IoError) → e ≢ io.Absent → (e ≡ io.Fault → Rose middle.faults new.faults) → Meets (Run image script_name start) old new before now (exit_not_stored e)
+    at : (e : IoError) → e ≢ io.Absent → (e ≡ io.Fault → Rose old.faults new.faults) → IsEndOfRun image source s old new before now (exit_not_stored e)
     at io.Absent there rose = absurd (there refl)
-    at io.Fault there rose = record { reason = inl (rose_later old.faults middle.faults new.faults o.later (rose refl)); end = inr end }
-    at io.NoMemory there rose = record { reason = tt; end = inr (inr end) }
+    at io.Fault there rose = (end, rose refl)
+    at io.NoMemory there rose = inr end
+
+-- From the folder after the inputs were read to the folder before: nothing changed in between.
+finished_from : (image : List ℕ) (source : Source) (s : Setup) (old middle new : FolderSeen) (before now : SinkSeen) → SameFiles old middle → RunFinished image source s middle new before now → RunFinished image source s old new before now
+finished_from image source s old middle new before now same f = record {
+  new_cells = f.new_cells;
+  ran = f.ran;
+  only = f.only;
+  stored = λ told. f.stored (rw same.tells told);
+  stands = f.stands;
+  layout = f.layout;
+  others = others_after image old middle new same f.others;
+}
+
+broke_off_from : (source : Source) (s : Setup) (old middle new : FolderSeen) (before now : SinkSeen) → SameFiles old middle → RunBrokeOff source s middle new before now → RunBrokeOff source s old new before now
+broke_off_from source s old middle new before now same b = record { log = b.log; did = b.did; told = b.told; tells = b.tells; files = same_twice old middle new same b.files }
+
+not_stored_from : (image : List ℕ) (source : Source) (s : Setup) (old middle new : FolderSeen) (before now : SinkSeen) → SameFiles old middle → RunNotStored image source s middle new before now → RunNotStored image source s old new before now
+not_stored_from image source s old middle new before now same n = record {
+  new_cells = n.new_cells;
+  ran = n.ran;
+  left = λ told. rw (same.files told image) at (n.left (rw same.tells told));
+  others = others_after image old middle new same n.others;
+}
+
+-- what a command does by the end of its run
+pub record Ends (c : Command) (image : List ℕ) (source : Source) (s : Setup) (old new : FolderSeen) (before now : SinkSeen) : Type 0 where
+  pub done : IsTrue old.tells → expected c old.file ≡ Done
+  pub finished : RunFinished image source s old new before now → Finished c old new before now
+  pub broke : RunBrokeOff source s old new before now → BrokeOff c old new before now
+  pub unstored : RunNotStored image source s old new before now → NotStored c old new before now
+
+pub run_ends : (image script_name : List ℕ) (start : ℕ) (s : Setup) (old new : FolderSeen) (before now : SinkSeen) → IsGiven image script_name old s → Ends (Run image script_name start) image (model_answer start) s old new before now
+run_ends image script_name start s old new before now given = record {
+  done = λ told. expected_rest (Run image script_name start) image script_name old.file _ s.opening s.lines (run_reads image script_name start old.file) (given.stood told) (given.read told);
+  finished = λ f. (s, given, f);
+  broke = λ b. (s, given, b);
+  unstored = λ n. (s, given, n);
+}
+
+pub replay_ends : (image script_name answers_name : List ℕ) (s : Setup) (answers : List Answer) (old new : FolderSeen) (before now : SinkSeen) → IsGiven image script_name old s → (IsTrue old.tells → answers_in (old.file answers_name) ≡ Ok answers) → Ends (Replay image script_name answers_name) image (script_answer answers) s old new before now
+replay_ends image script_name answers_name s answers old new before now given listed = record {
+  done = λ told. expected_rest (Replay image script_name answers_name) image script_name old.file _ s.opening s.lines (replay_reads image script_name answers_name old.file) (given.stood told) (given.read told) ∙ ap (λ r. unless_refused r Done) (listed told);
+  finished = λ f. (s, given, (answers, listed, f));
+  broke = λ b. (s, given, (answers, listed, b));
+  unstored = λ n. (s, given, (answers, listed, n));
+}
+
+-- the command meets what it promises, by how its run ended
+pub run_meets : (c : Command) (image : List ℕ) (source : Source) (s : Setup) (old middle new : FolderSeen) (before now : SinkSeen) (e : Exit) → Ends c image source s old new before now → SameFiles old middle → old.faults ≤ middle.faults → IsEndOfRun image source s middle new before now e → Meets c old new before now e
+run_meets c image source s old middle new before now Done ends same later end = record { reason = ends.done; end = ends.finished (finished_from image source s old middle new before now same end) }
+run_meets c image source s old middle new before now SinkFault ends same later end = record { reason = end.1; end = ends.broke (broke_off_from source s old middle new before now same end.0) }
+run_meets c image source s old middle new before now FileFault ends same later end = record {
+  reason = inl (rose_later old.faults middle.faults new.faults later end.1);
+  end = inr (ends.unstored (not_stored_from image source s old middle new before now same end.0));
+}
+run_meets c image source s old middle new before now NoMemory ends same later (inl b) = record { reason = tt; end = inr (inl (ends.broke (broke_off_from source s old middle new before now same b))) }
+run_meets c image source s old middle new before now NoMemory ends same later (inr n) = record { reason = tt; end = inr (inr (ends.unstored (not_stored_from image source s old middle new before now same n))) }
+run_meets c image source s old middle new before now Usage ends same later end = absurd end
+run_meets c image source s old middle new before now BadImage ends same later end = absurd end
+run_meets c image source s old middle new before now (BadScript line) ends same later end = absurd end
+run_meets c image source s old middle new before now (BadConfig key) ends same later end = absurd end
+run_meets c image source s old middle new before now (BadAnswers line) ends same later end = absurd end
 
 -- what was read of a folder with the same files
-pub read_back : (old middle : FolderSeen) (name : List ℕ) (lines : List ScriptLine) → SameFiles old middle → (IsTrue middle.tells → script_in (middle.file name) ≡ Ok lines) → IsTrue old.tells → script_in (old.file name) ≡ Ok lines
-read_back old middle name lines same read = λ told. rw (same.files told name) at (read (rw same.tells told))
+pub script_back : (old middle : FolderSeen) (name : List ℕ) (lines : List ScriptLine) → SameFiles old middle → (IsTrue middle.tells → script_in (middle.file name) ≡ Ok lines) → IsTrue old.tells → script_in (old.file name) ≡ Ok lines
+script_back old middle name lines same read = λ told. rw (same.files told name) at (read (rw same.tells told))
+
+pub answers_back : (old middle : FolderSeen) (name : List ℕ) (answers : List Answer) → SameFiles old middle → (IsTrue middle.tells → answers_in (middle.file name) ≡ Ok answers) → IsTrue old.tells → answers_in (old.file name) ≡ Ok answers
+answers_back old middle name answers same read = λ told. rw (same.files told name) at (read (rw same.tells told))

@@ -1,16 +1,17 @@
 -- What is read of an input file.
 use Rattle.std.proofs.Common.{◌≡◌, ℕ, ◌<◌, Bool, true, false, IsTrue, List, length, Option, Some, None, Result, Ok, Err, refl, sym, ap, ◌∙◌, arith, nat_eq, subst, inl, inr}
-use Rattle.std.specs.Prelude.{◌⊎◌, IfOk, IfErr, IsSome, IsSomeAnd, nat_le, Vec}
+use Rattle.std.specs.Prelude.{◌⊎◌, IfOk, IfErr, IsSome, IsSomeAnd, nat_le, nat_lt, Vec}
 use Rattle.std.specs.declared.alloc.Global.{Global}
 use Rattle.std.proofs.lemmas.Bool.Decides.{nat_tests}
 use Rattle.eid.specs.declared.exit.Exit.{Exit}
 use Rattle.eid.specs.declared.exit.Exit.TheVariants.{Done, Usage, FileFault, NoMemory, BadImage, BadScript, BadConfig, SinkFault, BadAnswers}
 use Rattle.eid_script.specs.Scripts.{script_of, script_limit}
+use Rattle.eid_copro.specs.Lines.{answers_of}
 use Rattle.eid.specs.Configs.{config_of}
 use Rattle.eid.specs.Images.{record_of}
 use Rattle.eid_record.specs.Plain.{FullRecord}
 use Rattle.eid_store.specs.Stands.{stands}
-use Rattle.eid.specs.Inputs.{image_in, script_in, config_in, or_bad, IsRefused, IsBad}
+use Rattle.eid.specs.Inputs.{image_in, script_in, answers_in, config_in, or_bad, IsRefused, IsBad}
 
 -- the image, where the file holds these bytes
 pub image_read : (file : Option (List ℕ)) (bytes : List ℕ) (full : FullRecord) → file ≡ Some bytes → record_of bytes ≡ Some full → image_in file ≡ Ok full
@@ -65,6 +66,24 @@ pub script_absent : (file : Option (List ℕ)) → file ≡ None → script_in f
 unfolding script_in
 script_absent file is = rw is refl
 
+pub answers_is : (file : Option (List ℕ)) (text : List ℕ) → file ≡ Some text → answers_in file ≡ or_bad BadAnswers (answers_of text)
+unfolding answers_in
+answers_is file text is = rw is refl
+
+long_answers : (text : List ℕ) → 1048576 < length text → answers_of text ≡ Err 0
+unfolding answers_of
+long_answers text long =
+    let beyond : nat_lt 1048576 (length text) ≡ true = grind (arith, nat_tests) in
+    rw beyond refl
+
+pub answers_long : (file : Option (List ℕ)) → IsSomeAnd file (λ text. 1048576 < length text) → answers_in file ≡ Err (BadAnswers 0)
+answers_long None long = absurd long
+answers_long (Some text) long = answers_is (Some text) text refl ∙ ap (or_bad BadAnswers) (long_answers text long)
+
+pub answers_absent : (file : Option (List ℕ)) → file ≡ None → answers_in file ≡ Err FileFault
+unfolding answers_in
+answers_absent file is = rw is refl
+
 pub config_is : (file : Option (List ℕ)) (text : List ℕ) → file ≡ Some text → config_in file ≡ or_bad BadConfig (config_of text)
 unfolding config_in
 config_is file text is = rw is refl
@@ -105,13 +124,13 @@ whole_text (Err e) view input said tells file text at is h = h
 bad_text : {A : Type 0} (e : Exit) (input : Option (List ℕ) → Result A Exit) (said : Result A Exit) (tells : Bool) (file : Option (List ℕ)) (text : List ℕ) (rose : Type 0) → ((f : Option (List ℕ)) → f ≡ Some text → input f ≡ said) → (IsTrue tells → file ≡ Some text) → IsBad e said → IsRefused tells (input file) rose e
 bad_text (BadScript line) input said tells file text rose at is h = λ told. at file (is told) ∙ h
 bad_text (BadConfig key) input said tells file text rose at is h = λ told. at file (is told) ∙ h
+bad_text (BadAnswers line) input said tells file text rose at is h = λ told. at file (is told) ∙ h
 bad_text Done input said tells file text rose at is h = absurd h
 bad_text Usage input said tells file text rose at is h = absurd h
 bad_text FileFault input said tells file text rose at is h = absurd h
 bad_text NoMemory input said tells file text rose at is h = absurd h
 bad_text BadImage input said tells file text rose at is h = absurd h
 bad_text SinkFault input said tells file text rose at is h = absurd h
-bad_text (BadAnswers line) input said tells file text rose at is h = absurd h
 
 pub refused_text : {A B : Type 0} (r : Result B Exit) (input : Option (List ℕ) → Result A Exit) (said : Result A Exit) (tells : Bool) (file : Option (List ℕ)) (text : List ℕ) (rose : Type 0) → ((f : Option (List ℕ)) → f ≡ Some text → input f ≡ said) → (IsTrue tells → file ≡ Some text) → IfErr r (λ e. (e ≡ NoMemory) ⊎ IsBad e said) → IfErr r (λ e. IsRefused tells (input file) rose e)
 refused_text (Ok x) input said tells file text rose at is h = h

@@ -44,7 +44,7 @@ reason_of BadImage tells told_of input expect rose folder_rose sink_rose to from
 reason_of (BadScript line) tells told_of input expect rose folder_rose sink_rose to from rises is r = λ told. is (BadScript line) told (r (to told))
 reason_of (BadConfig key) tells told_of input expect rose folder_rose sink_rose to from rises is r = λ told. is (BadConfig key) told (r (to told))
 reason_of SinkFault tells told_of input expect rose folder_rose sink_rose to from rises is r = absurd r
-reason_of (BadAnswers line) tells told_of input expect rose folder_rose sink_rose to from rises is r = absurd r
+reason_of (BadAnswers line) tells told_of input expect rose folder_rose sink_rose to from rises is r = λ told. is (BadAnswers line) told (r (to told))
 
 -- and nothing was done
 end_of : {A : Type 0} (e : Exit) (told_of : Bool) (input : Result A Exit) (rose : Type 0) (c : Command) (old new : FolderSeen) (before now : SinkSeen) → IsRefused told_of input rose e → DidNothing old new before now → IsEnd c old new before now e
@@ -56,7 +56,7 @@ end_of BadImage told_of input rose c old new before now r nothing = nothing
 end_of (BadScript line) told_of input rose c old new before now r nothing = nothing
 end_of (BadConfig key) told_of input rose c old new before now r nothing = nothing
 end_of SinkFault told_of input rose c old new before now r nothing = absurd r
-end_of (BadAnswers line) told_of input rose c old new before now r nothing = absurd r
+end_of (BadAnswers line) told_of input rose c old new before now r nothing = nothing
 
 -- the first input was refused
 pub refused : {A : Type 0} (c : Command) (old new : FolderSeen) (sink : SinkSeen) (input : Result A Exit) (e : Exit) → SameFiles old new → IsRefused old.tells input (Rose old.faults new.faults) e → ((x : Exit) → input ≡ Err x → expected c old.file ≡ x) → Meets c old new sink sink e

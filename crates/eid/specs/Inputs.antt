@@ -2,12 +2,14 @@
 use Rattle.std.specs.Prelude.{◌≡◌, ℕ, ◌<◌, ◌≤◌, Bool, IsTrue, List, length, Option, Some, None, Result, Ok, Err, ◌⊎◌, IsSomeAnd}
 use Rattle.eid_record.specs.Plain.{FullRecord}
 use Rattle.eid_script.specs.Scripts.{ScriptLine, script_of}
+use Rattle.eid_copro.specs.declared.ask.Answer.{Answer}
+use Rattle.eid_copro.specs.Lines.{answers_of}
 use Rattle.eid_perso.specs.Config.{PlainConfig}
 use Rattle.eid.specs.declared.exit.Exit.{Exit}
 use Rattle.eid.specs.declared.exit.Exit.TheVariants.{Done, Usage, FileFault, NoMemory, BadImage, BadScript, BadConfig, SinkFault, BadAnswers}
 use Rattle.eid.specs.declared.load.Read.{Read}
 use Rattle.eid.specs.declared.load.Read.TheVariants as read
-use Rattle.eid.specs.Commands.{Command, Run, Make, Show}
+use Rattle.eid.specs.Commands.{Command, Run, Replay, Make, Show}
 use Rattle.eid.specs.Configs.{config_of}
 use Rattle.eid.specs.Images.{record_of}
 
@@ -28,6 +30,10 @@ unfoldable pub script_in : Option (List ℕ) → Result (List ScriptLine) Exit
 script_in None = Err FileFault
 script_in (Some text) = or_bad BadScript (script_of text)
 
+unfoldable pub answers_in : Option (List ℕ) → Result (List Answer) Exit
+answers_in None = Err FileFault
+answers_in (Some text) = or_bad BadAnswers (answers_of text)
+
 unfoldable pub config_in : Option (List ℕ) → Result PlainConfig Exit
 config_in None = Err FileFault
 config_in (Some text) = or_bad BadConfig (config_of text)
@@ -41,6 +47,7 @@ unless_refused (Ok value) later = later
 -- the order of the words
 unfoldable pub expected : Command → (List ℕ → Option (List ℕ)) → Exit
 expected (Run image script start) files = unless_refused (image_in (files image)) (unless_refused (script_in (files script)) Done)
+expected (Replay image script answers) files = unless_refused (image_in (files image)) (unless_refused (script_in (files script)) (unless_refused (answers_in (files answers)) Done))
 expected (Make config image) files = unless_refused (config_in (files config)) Done
 expected (Show image) files = unless_refused (image_in (files image)) Done
 
@@ -61,16 +68,16 @@ IsRefused tells input rose Usage = ⊥
 IsRefused tells input rose BadImage = IsTrue tells → input ≡ Err BadImage
 IsRefused tells input rose (BadScript line) = IsTrue tells → input ≡ Err (BadScript line)
 IsRefused tells input rose (BadConfig key) = IsTrue tells → input ≡ Err (BadConfig key)
-IsRefused tells input rose (BadAnswers line) = ⊥
+IsRefused tells input rose (BadAnswers line) = IsTrue tells → input ≡ Err (BadAnswers line)
 
--- the exit names the line of a script, or the key of a configuration, that is none
+-- the exit names the line of a script, the key of a configuration, or the line of the answers, that is none
 abbrev pub IsBad : {A : Type 0} → Exit → Result A Exit → Type 0
 IsBad (BadScript line) said = said ≡ Err (BadScript line)
 IsBad (BadConfig key) said = said ≡ Err (BadConfig key)
+IsBad (BadAnswers line) said = said ≡ Err (BadAnswers line)
 IsBad Done said = ⊥
 IsBad Usage said = ⊥
 IsBad FileFault said = ⊥
 IsBad NoMemory said = ⊥
 IsBad BadImage said = ⊥
 IsBad SinkFault said = ⊥
-IsBad (BadAnswers line) said = ⊥

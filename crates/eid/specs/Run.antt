@@ -1,56 +1,96 @@
 -- What the run of a script does. This project's own.
-use Rattle.std.specs.Prelude.{◌≡◌, ℕ, IsTrue, List, Some, Ok, slice_index}
+use Rattle.std.specs.Prelude.{◌≡◌, ◌⊎◌, ℕ, IsTrue, List, [], Some, Ok, slice_index}
+use Rattle.eid_base.specs.Faults.{Rose}
 use Rattle.eid_base.specs.Seen.{FolderSeen, SinkSeen, SameFiles, SameOthers, IsLeftBy}
 use Rattle.eid_record.specs.Plain.{FullRecord}
-use Rattle.eid_model.specs.Moments.{PlainMoment, script, AreSteady}
+use Rattle.eid_copro.specs.Model.{model_answer}
+use Rattle.eid_copro.specs.Script.{script_answer}
+use Rattle.eid_copro.specs.Told.{Source, Told, KeepsTo, AnswersFrom}
+use Rattle.eid_copro.specs.declared.ask.Answer.{Answer}
+use Rattle.eid_copro.specs.declared.ask.Ask.{Ask}
+use Rattle.eid_model.specs.Moments.{PlainMoment, script, asked, AreSteady}
 use Rattle.eid_model.specs.Legal.{AreLegal, kept}
 use Rattle.eid_script.specs.Scripts.{ScriptLine}
 use Rattle.eid_run.specs.Runs.{journal, DidLines, DidSomeLines}
-use Rattle.eid.specs.Inputs.{image_in, script_in}
+use Rattle.eid.specs.declared.exit.Exit.{Exit}
+use Rattle.eid.specs.declared.exit.Exit.TheVariants.{Done, Usage, FileFault, NoMemory, BadImage, BadScript, BadConfig, SinkFault, BadAnswers}
+use Rattle.eid.specs.Inputs.{image_in, script_in, answers_in}
 
--- The run of a script that came to its end, over cells that stood for a record.
-pub record RanWhole (image script_name : List ℕ) (old : FolderSeen) (before now : SinkSeen) (opening : FullRecord) (cells new_cells : List ℕ) : Type 0 where
+-- What a run begins with: the opening record, the cells that stand for it, and the lines of the script.
+pub record Setup : Type 0 where
+  pub opening : FullRecord
+  pub cells : List ℕ
   pub lines : List ScriptLine
-  pub stood : IsTrue old.tells → image_in (old.file image) ≡ Ok opening
-  pub held : IsTrue old.tells → old.file image ≡ Some cells
-  pub read : IsTrue old.tells → script_in (old.file script_name) ≡ Ok lines
-  pub ran : DidLines opening lines cells new_cells before now
 
--- no other steady journal is legal for this record and these moments
-abbrev pub IsOnlyJournal : FullRecord → List PlainMoment → Type 0
-IsOnlyJournal opening moments = AreSteady moments × ((other : List PlainMoment) → AreLegal opening other → AreSteady other → script other ≡ script moments → other ≡ moments)
+abbrev pub setup : FullRecord → List ℕ → List ScriptLine → Setup
+setup opening cells lines = record { opening = opening; cells = cells; lines = lines }
+
+-- the files give it
+pub record IsGiven (image script_name : List ℕ) (old : FolderSeen) (s : Setup) : Type 0 where
+  pub stood : IsTrue old.tells → image_in (old.file image) ≡ Ok s.opening
+  pub held : IsTrue old.tells → old.file image ≡ Some s.cells
+  pub read : IsTrue old.tells → script_in (old.file script_name) ≡ Ok s.lines
+
+-- The script ran to its end, and the answers that the coprocessor gave are those of the source. Its log,
+-- which was empty, has the questions of the moments.
+pub record RanWhole (source : Source) (s : Setup) (new_cells : List ℕ) (before now : SinkSeen) : Type 0 where
+  pub log : List Ask
+  pub did : DidLines s.opening s.lines s.cells new_cells [] log before now
+  pub told : AnswersFrom source (asked (journal did.happened))
+  pub tells : now.tells ≡ before.tells
+
+-- no other steady journal is legal for this record, these lines and this source of the answers
+abbrev pub IsOnlyJournal : Source → FullRecord → List PlainMoment → Type 0
+IsOnlyJournal source opening moments =
+    AreSteady moments × ((other : List PlainMoment) → AreLegal opening other → AreSteady other → script other ≡ script moments → AnswersFrom source (asked other) → other ≡ moments)
 
 -- a run of a script: all of it done. The image then has cells that stand for the record kept, of the
 -- same layout, and no other name changed.
-pub record RunFinished (image script_name : List ℕ) (old new : FolderSeen) (before now : SinkSeen) : Type 0 where
-  pub opening : FullRecord
-  pub cells : List ℕ
+pub record RunFinished (image : List ℕ) (source : Source) (s : Setup) (old new : FolderSeen) (before now : SinkSeen) : Type 0 where
   pub new_cells : List ℕ
-  pub whole : RanWhole image script_name old before now opening cells new_cells
-  pub only : IsOnlyJournal opening (journal whole.ran.happened)
-  pub tells : now.tells ≡ before.tells
+  pub ran : RanWhole source s new_cells before now
+  pub only : IsOnlyJournal source s.opening (journal ran.did.happened)
   pub stored : IsTrue old.tells → new.file image ≡ Some new_cells
-  pub stands : image_in (Some new_cells) ≡ Ok (kept opening (journal whole.ran.happened))
-  pub layout : slice_index new_cells 0 ≡ slice_index cells 0
+  pub stands : image_in (Some new_cells) ≡ Ok (kept s.opening (journal ran.did.happened))
+  pub layout : slice_index new_cells 0 ≡ slice_index s.cells 0
   pub others : SameOthers image old new
 
 -- a run that broke off: the files are as before, and a front of the trace was written
-pub record RunBrokeOff (image script_name : List ℕ) (old new : FolderSeen) (before now : SinkSeen) : Type 0 where
-  pub opening : FullRecord
-  pub cells : List ℕ
-  pub lines : List ScriptLine
-  pub stood : IsTrue old.tells → image_in (old.file image) ≡ Ok opening
-  pub read : IsTrue old.tells → script_in (old.file script_name) ≡ Ok lines
-  pub ran : DidSomeLines opening lines cells before now
+pub record RunBrokeOff (source : Source) (s : Setup) (old new : FolderSeen) (before now : SinkSeen) : Type 0 where
+  pub log : List Ask
+  pub did : DidSomeLines s.opening s.lines s.cells [] log before now
+  pub told : AnswersFrom source (asked (journal did.happened))
   pub tells : now.tells ≡ before.tells
   pub files : SameFiles old new
 
 -- the trace was written whole, and the image not stored: it is absent, old, or a front of the new cells
-pub record RunNotStored (image script_name : List ℕ) (old new : FolderSeen) (before now : SinkSeen) : Type 0 where
-  pub opening : FullRecord
-  pub cells : List ℕ
+pub record RunNotStored (image : List ℕ) (source : Source) (s : Setup) (old new : FolderSeen) (before now : SinkSeen) : Type 0 where
   pub new_cells : List ℕ
-  pub whole : RanWhole image script_name old before now opening cells new_cells
-  pub tells : now.tells ≡ before.tells
+  pub ran : RanWhole source s new_cells before now
   pub left : IsTrue old.tells → IsLeftBy (old.file image) (new.file image) new_cells
   pub others : SameOthers image old new
+
+-- a run came to such an end, and the answers are those of the model with this start
+abbrev pub OfRun : (image script_name : List ℕ) (start : ℕ) → FolderSeen → (Source → Setup → Type 0) → Type 0
+OfRun image script_name start old End = (s : Setup) × IsGiven image script_name old s × End (model_answer start) s
+
+-- a run came to such an end, and the answers are those of a file
+abbrev pub OfReplay : (image script_name answers_name : List ℕ) → FolderSeen → (Source → Setup → Type 0) → Type 0
+OfReplay image script_name answers_name old End =
+    (s : Setup) × IsGiven image script_name old s × ((answers : List Answer) × (IsTrue old.tells → answers_in (old.file answers_name) ≡ Ok answers) × End (script_answer answers) s)
+
+-- a coprocessor that tells this has its answers from the source
+abbrev pub HasSource : Told → Source → Type 0
+HasSource told source = (log : List Ask) → KeepsTo told log → AnswersFrom source log
+
+-- how a run that had its inputs ended, by the exit
+abbrev pub IsEndOfRun : (image : List ℕ) → Source → Setup → FolderSeen → FolderSeen → SinkSeen → SinkSeen → Exit → Type 0
+IsEndOfRun image source s old new before now Done = RunFinished image source s old new before now
+IsEndOfRun image source s old new before now SinkFault = RunBrokeOff source s old new before now × Rose before.faults now.faults
+IsEndOfRun image source s old new before now FileFault = RunNotStored image source s old new before now × Rose old.faults new.faults
+IsEndOfRun image source s old new before now NoMemory = RunBrokeOff source s old new before now ⊎ RunNotStored image source s old new before now
+IsEndOfRun image source s old new before now Usage = ⊥
+IsEndOfRun image source s old new before now BadImage = ⊥
+IsEndOfRun image source s old new before now (BadScript line) = ⊥
+IsEndOfRun image source s old new before now (BadConfig key) = ⊥
+IsEndOfRun image source s old new before now (BadAnswers line) = ⊥

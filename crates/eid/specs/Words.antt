@@ -1,9 +1,10 @@
 -- The words of the code as a command.
 use Rattle.eid.specs.declared.words.Words.{Words}
 use Rattle.eid.specs.declared.words.Words.TheVariants as variants
-use Rattle.eid.specs.Commands.{Command, Run, Make, Show}
+use Rattle.eid.specs.Commands.{Command, Run, Replay, Make, Show}
 
 abbrev pub command : Words → Command
 command (variants.Run image script start) = Run image.now script.now start
+command (variants.Replay image script answers) = Replay image.now script.now answers.now
 command (variants.Make config image) = Make config.now image.now
 command (variants.Show image) = Show image.now

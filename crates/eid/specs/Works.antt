@@ -4,10 +4,10 @@ use Rattle.eid_base.specs.Faults.{Rose}
 use Rattle.eid_base.specs.Seen.{FolderSeen, SinkSeen, SameFiles}
 use Rattle.eid.specs.declared.exit.Exit.{Exit}
 use Rattle.eid.specs.declared.exit.Exit.TheVariants.{Done, Usage, FileFault, NoMemory, BadImage, BadScript, BadConfig, SinkFault, BadAnswers}
-use Rattle.eid.specs.Commands.{Command, Run, Make, Show}
+use Rattle.eid.specs.Commands.{Command, Run, Replay, Make, Show}
 use Rattle.eid.specs.Inputs.{expected}
 use Rattle.eid.specs.Make.{MakeFinished, MakeNotStored}
-use Rattle.eid.specs.Run.{RunFinished, RunBrokeOff, RunNotStored}
+use Rattle.eid.specs.Run.{RunFinished, RunBrokeOff, RunNotStored, OfRun, OfReplay}
 use Rattle.eid.specs.Show.{ShowFinished, ShowBrokeOff}
 use Rattle.eid.specs.Sinks.{WroteNothing}
 
@@ -31,19 +31,22 @@ pub record DidNothing (old new : FolderSeen) (before now : SinkSeen) : Type 0 wh
 
 -- all of the command's work was done
 abbrev pub Finished : Command → FolderSeen → FolderSeen → SinkSeen → SinkSeen → Type 0
-Finished (Run image script start) old new before now = RunFinished image script old new before now
+Finished (Run image script start) old new before now = OfRun image script start old (λ source s. RunFinished image source s old new before now)
+Finished (Replay image script answers) old new before now = OfReplay image script answers old (λ source s. RunFinished image source s old new before now)
 Finished (Make config image) old new before now = MakeFinished config image old new before now
 Finished (Show image) old new before now = ShowFinished image old new before now
 
 -- it broke off while it printed; a command that prints nothing never does
 abbrev pub BrokeOff : Command → FolderSeen → FolderSeen → SinkSeen → SinkSeen → Type 0
-BrokeOff (Run image script start) old new before now = RunBrokeOff image script old new before now
+BrokeOff (Run image script start) old new before now = OfRun image script start old (λ source s. RunBrokeOff source s old new before now)
+BrokeOff (Replay image script answers) old new before now = OfReplay image script answers old (λ source s. RunBrokeOff source s old new before now)
 BrokeOff (Make config image) old new before now = ⊥
 BrokeOff (Show image) old new before now = ShowBrokeOff image old new before now
 
 -- all was done but for the storing of a file; a command that stores none never ends so
 abbrev pub NotStored : Command → FolderSeen → FolderSeen → SinkSeen → SinkSeen → Type 0
-NotStored (Run image script start) old new before now = RunNotStored image script old new before now
+NotStored (Run image script start) old new before now = OfRun image script start old (λ source s. RunNotStored image source s old new before now)
+NotStored (Replay image script answers) old new before now = OfReplay image script answers old (λ source s. RunNotStored image source s old new before now)
 NotStored (Make config image) old new before now = MakeNotStored config image old new before now
 NotStored (Show image) old new before now = ⊥
 

@@ -4,14 +4,16 @@ ghost use Rattle.eid_base.specs.Faults.{Rose};
 ghost use Rattle.eid_base.specs.Seen.{SameFiles};
 ghost use Rattle.eid_store.specs.Stands.{stands};
 ghost use Rattle.eid_script.specs.Scripts.{plain_line, script_of};
+ghost use Rattle.eid_copro.specs.Lines.{answers_of};
 ghost use Rattle.eid.specs.Images.{record_of};
 ghost use Rattle.eid_perso.specs.Config.{IsWhole, config_view};
 ghost use Rattle.eid.specs.Configs.{config_of};
-ghost use Rattle.eid.specs.Inputs.{image_in, script_in, config_in, or_bad, IsRead, IsRefused, IsBad};
+ghost use Rattle.eid.specs.Inputs.{image_in, script_in, answers_in, config_in, or_bad, IsRead, IsRefused, IsBad};
 
 use crate::exit::Exit;
 use eid_base::{Folder, IoError, NoMemory};
 use eid_cells::{Eeprom, MemoryEeprom};
+use eid_copro::{Answer, AnswersError, read_answers};
 use eid_perso::{Config, ConfigError, read_config};
 use eid_script::{Line, ScriptError, read_script};
 use eid_store::Store;
@@ -22,6 +24,9 @@ pub const IMAGE_SIZE: usize = 65536;
 
 /// How many bytes the longest script has.
 const SCRIPT_LIMIT: usize = 1_048_576;
+
+/// How many bytes the longest text of answers has.
+const ANSWERS_LIMIT: usize = 1_048_576;
 
 /// How many bytes the longest configuration has.
 const CONFIG_LIMIT: usize = 1_048_576;
@@ -127,6 +132,37 @@ pub fn load_script<F: Folder>(alloc: Global, folder: &mut F, name: &str) -> Resu
     match read_whole(alloc, folder, name, SCRIPT_LIMIT) {
         Read::Whole(text) => script_of_text(alloc, text.as_slice()),
         Read::TooLong => Err(Exit::BadScript { line: 0 }),
+        Read::NoMemory => Err(Exit::NoMemory),
+        Read::Failed => Err(Exit::FileFault),
+    }
+}
+
+/// The answers of this text.
+fn answers_of_text(alloc: Global, text: &[u8]) -> Result<Vec<Answer>, Exit>
+    ensures found { IfOk result (λ answers. or_bad Exit.BadAnswers (answers_of text.now) ≡ Ok answers.items) }
+    ensures refused { IfErr result (λ e. (e ≡ Exit.NoMemory) ⊎ IsBad e (or_bad Exit.BadAnswers (answers_of text.now))) }
+{
+    match read_answers(alloc, text) {
+        Ok(answers) => Ok(answers),
+        Err(AnswersError::Bad { line }) => Err(Exit::BadAnswers { line }),
+        Err(AnswersError::NoMemory) => Err(Exit::NoMemory),
+    }
+}
+
+/// Reads the answers of a coprocessor.
+pub fn load_answers<F: Folder>(
+    alloc: Global,
+    folder: &mut F,
+    name: &str,
+) -> Result<Vec<Answer>, Exit>
+    ensures answers { IfOk result (λ answers. IsTrue (F.seen folder.old).tells → answers_in ((F.seen folder.old).file name.now) ≡ Ok answers.items) }
+    ensures refused { IfErr result (λ e. IsRefused (F.seen folder.old).tells (answers_in ((F.seen folder.old).file name.now)) (Rose (F.seen folder.old).faults (F.seen folder.new).faults) e) }
+    ensures same { SameFiles (F.seen folder.old) (F.seen folder.new) }
+    ensures later { (F.seen folder.old).faults ≤ (F.seen folder.new).faults }
+{
+    match read_whole(alloc, folder, name, ANSWERS_LIMIT) {
+        Read::Whole(text) => answers_of_text(alloc, text.as_slice()),
+        Read::TooLong => Err(Exit::BadAnswers { line: 0 }),
         Read::NoMemory => Err(Exit::NoMemory),
         Read::Failed => Err(Exit::FileFault),
     }

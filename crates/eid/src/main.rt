@@ -5,6 +5,7 @@ mod exit;
 mod load;
 mod make;
 mod program;
+mod replay;
 mod run;
 mod show;
 #[cfg(test)]

@@ -6,6 +6,7 @@ ghost use Rattle.eid.specs.Works.{Meets, IsIdle};
 
 use crate::exit::Exit;
 use crate::make::make;
+use crate::replay::replay;
 use crate::run::run;
 use crate::show::show;
 use crate::words::{Words, read_words};
@@ -27,6 +28,11 @@ fn carry_out<F: Folder, K: Sink>(
             script,
             start,
         } => run(alloc, image, script, start, folder, out),
+        Words::Replay {
+            image,
+            script,
+            answers,
+        } => replay(alloc, image, script, answers, folder, out),
         Words::Make { config, image } => make(alloc, config, image, folder),
         Words::Show { image } => show(alloc, image, folder, out),
     }

@@ -1,16 +1,50 @@
-//! The command `run`.
+//! The command `run`, and the run of a script that it shares with `replay`.
+ghost use Rattle.std.specs.Prelude.{◌≡◌, [], Some, IsSome, length, map};
+ghost use Rattle.eid_record.specs.Plain.{FullRecord};
+ghost use Rattle.eid_store.specs.Stands.{stands};
+ghost use Rattle.eid_copro.specs.Told.{Source};
+ghost use Rattle.eid_script.specs.Scripts.{plain_line};
 ghost use Rattle.eid.specs.Commands.{Run};
+ghost use Rattle.eid.specs.Run.{HasSource, IsEndOfRun, setup};
 ghost use Rattle.eid.specs.Works.{Meets};
 
 use crate::exit::Exit;
 use crate::load::{load_image, load_script};
 use eid_base::{Folder, Sink};
 use eid_cells::MemoryEeprom;
+use eid_copro::{Coprocessor, ModelCoprocessor};
 use eid_run::run_script;
+use eid_script::Line;
 use std::alloc::Global;
 
-/// Runs a script on an image: reads and checks both, writes the trace, and then stores the cells that
-/// the run left.
+/// Runs a script over cells that stand for a record and a coprocessor that was asked nothing: writes the
+/// trace, and then stores the cells that the run left.
+pub fn run_and_store<C: Coprocessor, F: Folder, K: Sink>(
+    alloc: Global,
+    image: &str,
+    cells: Vec<u8>,
+    lines: &[Line],
+    copro: &mut C,
+    folder: &mut F,
+    out: &mut K,
+) -> Exit
+    requires size { length cells.items ≡ 65536 }
+    requires stands { IsSome (stands cells.items) }
+    requires log { C.log copro.old ≡ [] }
+    ensures { (source : Source) (opening : FullRecord) → HasSource (C.told copro.old) source → stands cells.items ≡ Some opening → IsEndOfRun image.now source (setup opening cells.items (map plain_line lines.now)) (F.seen folder.old) (F.seen folder.new) (K.seen out.old) (K.seen out.new) result }
+{
+    let mut device = MemoryEeprom::new(cells);
+    if let Err(error) = run_script(alloc, lines, &mut device, copro, out) {
+        return Exit::of_run(error);
+    }
+    match folder.write(image, device.cells()) {
+        Ok(()) => Exit::Done,
+        Err(error) => Exit::of_write(error),
+    }
+}
+
+/// Runs a script on an image with the model coprocessor: reads and checks both, writes the trace, and
+/// then stores the cells that the run left.
 pub fn run<F: Folder, K: Sink>(
     alloc: Global,
     image: &str,
@@ -21,7 +55,6 @@ pub fn run<F: Folder, K: Sink>(
 ) -> Exit
     ensures { Meets (Run image.now script.now start) (F.seen folder.old) (F.seen folder.new) (K.seen out.old) (K.seen out.new) result }
 {
-    let _ = start;
     let cells = match load_image(alloc, folder, image) {
         Ok(cells) => cells,
         Err(exit) => return exit,
@@ -30,12 +63,14 @@ pub fn run<F: Folder, K: Sink>(
         Ok(lines) => lines,
         Err(exit) => return exit,
     };
-    let mut device = MemoryEeprom::new(cells);
-    if let Err(error) = run_script(alloc, lines.as_slice(), &mut device, out) {
-        return Exit::of_run(error);
-    }
-    match folder.write(image, device.cells()) {
-        Ok(()) => Exit::Done,
-        Err(error) => Exit::of_write(error),
-    }
+    let mut copro = ModelCoprocessor::new(alloc, start);
+    run_and_store(
+        alloc,
+        image,
+        cells,
+        lines.as_slice(),
+        &mut copro,
+        folder,
+        out,
+    )
 }

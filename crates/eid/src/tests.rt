@@ -1,6 +1,9 @@
 //! The program over a folder and a sink in memory. Whole traces were computed by a separate simulator
 //! in Python, written from the standard and not from this program.
 mod images;
+mod pace;
+mod replay;
+mod traces;
 
 use crate::exit::Exit;
 use crate::program::program;

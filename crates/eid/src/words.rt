@@ -9,7 +9,7 @@ use std::alloc::Global;
 /// What the words ask for.
 #[derive(Clone, Copy, Debug)]
 pub enum Words<'a> {
-    /// To run a script on an image.
+    /// To run a script on an image with the model coprocessor.
     Run {
         /// The name of the image's file.
         image: &'a str,
@@ -17,6 +17,15 @@ pub enum Words<'a> {
         script: &'a str,
         /// The start of the model coprocessor.
         start: u64,
+    },
+    /// To run a script on an image, with the coprocessor's answers from a file.
+    Replay {
+        /// The name of the image's file.
+        image: &'a str,
+        /// The name of the script's file.
+        script: &'a str,
+        /// The name of the answers' file.
+        answers: &'a str,
     },
     /// To write the image of a configuration.
     Make {
@@ -73,6 +82,21 @@ fn run_words(alloc: Global, rest: &[String]) -> Result<Option<Words<'_>>, NoMemo
     }))
 }
 
+/// What the words behind `replay` ask for.
+fn replay_words(rest: &[String]) -> Option<Words<'_>>
+    ensures found { IfSome result (λ w. Says (codes "replay" ∷ map (λ s. string_bytes s) rest.now) (command w)) }
+    ensures none { IfNone result ((c : Command) → Says (codes "replay" ∷ map (λ s. string_bytes s) rest.now) c → ⊥) }
+{
+    let [image, script, answers] = rest else {
+        return None;
+    };
+    Some(Words::Replay {
+        image: image.as_str(),
+        script: script.as_str(),
+        answers: answers.as_str(),
+    })
+}
+
 /// What the words behind `make` ask for.
 fn make_words(rest: &[String]) -> Option<Words<'_>>
     ensures found { IfSome result (λ w. Says (codes "make" ∷ map (λ s. string_bytes s) rest.now) (command w)) }
@@ -110,6 +134,9 @@ pub fn read_words(alloc: Global, words: &[String]) -> Result<Option<Words<'_>>, 
     };
     if is(first.as_str(), "run") {
         return run_words(alloc, rest);
+    }
+    if is(first.as_str(), "replay") {
+        return Ok(replay_words(rest));
     }
     if is(first.as_str(), "make") {
         return Ok(make_words(rest));

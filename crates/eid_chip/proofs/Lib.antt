@@ -1,4 +1,11 @@
-pub mod Chips
-pub mod Follow
 pub mod HeldFiles
 pub mod Outcomes
+pub mod Follow
+pub mod Chips
+pub mod Unasked
+pub mod Bodies
+pub mod PaceSteps
+pub mod CarriedOut
+pub mod Selections
+pub mod ReadSteps
+pub mod Refusals

@@ -1,18 +1,22 @@
 -- From the rules of a kind to all rules.
-use Rattle.std.proofs.Common.{◌≡◌, ℕ, ◌<◌, ◌≤◌, Bool, true, false, ◌==◌, ◌&&◌, not, List, [], ◌∷◌, ◌++◌, length, Option, Some, None, refl, sym, ap, ◌∙◌, subst, arith}
-use Rattle.std.specs.Prelude.{if◌then◌else◌, nat_le, option_map}
+use Rattle.std.proofs.Common.{◌≡◌, ℕ, ◌<◌, ◌≤◌, Bool, true, false, ◌==◌, ◌&&◌, ◌||◌, not, List, [], ◌∷◌, ◌++◌, length, Option, Some, None, refl, sym, ap, ◌∙◌, arith}
+use Rattle.std.specs.Prelude.{if◌then◌else◌, is_none, nat_le, option_map}
 use Rattle.std.proofs.lemmas.Bool.Decides.{nat_tests}
 use Rattle.eid_apdu.specs.Command.{PlainCommand}
 use Rattle.eid_apdu.specs.Answer.{plain_reply}
+use Rattle.eid_copro.specs.declared.ask.Ask.{Ask}
+use Rattle.eid_copro.specs.declared.ask.Question.{Question}
+use Rattle.eid_copro.specs.declared.ask.Answer.{Answer}
 use Rattle.eid_record.specs.Plain.{FullRecord}
 use Rattle.eid_model.specs.declared.kind.Kind.{Kind}
 use Rattle.eid_model.specs.Kinds.{kind_named}
-use Rattle.eid_model.specs.Moments.{ends_session_by}
-use Rattle.eid_model.specs.Sessions.{State}
-use Rattle.eid_model.specs.Rules.{Command, Situation, RuleRow, MAX_REQUEST, naming_rules, request_rules, kind_rules, concerns, first_failed}
-use Rattle.eid_model.specs.Answers.{Outcome, outcome, outcome_by, situation, rules, status_alone, state_answered}
+use Rattle.eid_model.specs.Runs.{answers_of}
+use Rattle.eid_model.specs.Sessions.{State, advanced, ended_run}
+use Rattle.eid_model.specs.Rules.{Heard, Command, Situation, RuleRow, MAX_REQUEST, hearing_rules, naming_rules, request_rules, kind_rules, answer_rules, proof_rules, concerns, first_failed}
+use Rattle.eid_model.specs.Answers.{Outcome, outcome, outcome_of, outcome_by, question, question_by, question_of, situation, kind_heard, command_of, status_alone, state_answered}
+use Rattle.eid_model.specs.Legal.{AreAsked}
 use Rattle.eid_chip.specs.declared.reaction.Reaction.{Reaction}
-use Rattle.eid_chip.specs.Steps.{state, PlainRefusal, refusal_by, known, heard_command, outcome_of, Told, Answers}
+use Rattle.eid_chip.specs.Steps.{PlainRefusal, refusal_by, known, heard_command, outcome_seen, state_left, state_due, Told, Answers}
 
 passed_at : (b : Bool) (row : RuleRow) (rows more : List RuleRow) (s : Situation) → (refusal_by rows s ≡ None → first_failed (rows ++ more) s ≡ first_failed more s) → option_map {U = PlainRefusal} (λ r. record { rule = r.number; status = r.status s }) (if b then Some row else first_failed rows s) ≡ None → (if b then Some row else first_failed (rows ++ more) s) ≡ first_failed more s
 passed_at true row rows more s later e = absurd (cc)
@@ -34,65 +38,166 @@ pub failed : (rows more : List RuleRow) (s : Situation) (r : PlainRefusal) → r
 failed [] more s r e = absurd (cc)
 failed (row ∷ rows) more s r e = failed_at (concerns row.kinds s.kind && not (row.holds s)) row rows more s r (failed rows more s r) e
 
--- a command of a known kind, in a request that can be answered, is answered by the rules of its kind
-pub told_answers : (kept : FullRecord) (old : State) (c : PlainCommand) (kind : Kind) (r : Reaction) → old.next ≡ None → kind_named None c ≡ Some kind → refusal_by naming_rules (heard_command kept old c) ≡ None → refusal_by request_rules (heard_command kept old c) ≡ None → Told kind kept old c r → Answers kept old (Command c) r
+some_at : (b : Bool) (row : RuleRow) (rows more : List RuleRow) (s : Situation) (r : PlainRefusal) → (refusal_by rows s ≡ Some r → is_none (first_failed (rows ++ more) s) ≡ false) → option_map (λ row. record { rule = row.number; status = row.status s }) (if b then Some row else first_failed rows s) ≡ Some r → is_none (if b then Some row else first_failed (rows ++ more) s) ≡ false
+some_at true row rows more s r later e = refl
+some_at false row rows more s r later e = later e
+
+-- where one of these rules fails, some rule fails
+pub some_failed : (rows more : List RuleRow) (s : Situation) (r : PlainRefusal) → refusal_by rows s ≡ Some r → is_none (first_failed (rows ++ more) s) ≡ false
+some_failed [] more s r e = absurd (cc)
+some_failed (row ∷ rows) more s r e = some_at (concerns row.kinds s.kind && not (row.holds s)) row rows more s r (some_failed rows more s r) e
+
+-- what was heard is a command: the rules on hearing hold
+heard_so : (kept : FullRecord) (old : State) (c : PlainCommand) (answers : List Answer) → refusal_by hearing_rules (heard_command kept old c answers) ≡ None
+heard_so kept old c answers = refl
+
+-- only the rules of the kind and the later ones are left
+late_rules : (more : List RuleRow) (kept : FullRecord) (old : State) (c : PlainCommand) (answers : List Answer) → refusal_by naming_rules (heard_command kept old c answers) ≡ None → refusal_by request_rules (heard_command kept old c answers) ≡ None
+    → first_failed (hearing_rules ++ naming_rules ++ request_rules ++ kind_rules ++ more) (heard_command kept old c answers) ≡ first_failed (kind_rules ++ more) (heard_command kept old c answers)
+late_rules more kept old c answers names requests =
+    let s = heard_command kept old c answers in
+    passed hearing_rules (naming_rules ++ request_rules ++ kind_rules ++ more) s (heard_so kept old c answers)
+    ∙ passed naming_rules (request_rules ++ kind_rules ++ more) s names ∙ passed request_rules (kind_rules ++ more) s requests
+
+-- a situation in which the kind was found
+known_so : (kept : FullRecord) (old : State) (c : PlainCommand) (kind : Kind) (answers : List Answer) → kind_named old.next c ≡ Some kind → heard_command kept old c answers ≡ known kind kept old c answers
+known_so kept old c kind answers named =
+    ap (λ (k : Option Kind). record { heard = Command c; command = c; kind = k; kept = kept; state = old; answers = answers }) named
+
+-- the questions and the outcome are those of the kind
+kind_question : (kept : FullRecord) (old : State) (c : PlainCommand) (kind : Kind) (answers : List Answer) → kind_named old.next c ≡ Some kind → refusal_by naming_rules (heard_command kept old c answers) ≡ None → refusal_by request_rules (heard_command kept old c answers) ≡ None
+    → question (heard_command kept old c answers) ≡ question_by kind_rules (known kind kept old c answers)
+unfolding question
+kind_question kept old c kind answers named names requests =
+    ap (λ (f : Option RuleRow). if is_none f then question_of (heard_command kept old c answers).kind (heard_command kept old c answers) else None) (late_rules answer_rules kept old c answers names requests)
+    ∙ ap (λ (s : Situation). question_by kind_rules s) (known_so kept old c kind answers named)
+
+kind_outcome : (kept : FullRecord) (old : State) (c : PlainCommand) (kind : Kind) (answers : List Answer) → kind_named old.next c ≡ Some kind → refusal_by naming_rules (heard_command kept old c answers) ≡ None → refusal_by request_rules (heard_command kept old c answers) ≡ None
+    → outcome (heard_command kept old c answers) ≡ outcome_of kind_rules (known kind kept old c answers)
 unfolding outcome
-told_answers kept old c kind r no_next named names requests told =
-    let is : kind_named old.next c ≡ Some kind = ap (λ (n : Option Kind). kind_named n c) no_next ∙ named in
-    let s : situation kept old (Command c) ≡ known kind kept old c =
-    ap (λ (k : Option Kind). record { heard = Command c; command = c; kind = k; kept = kept; state = old }) is in
-    let later : first_failed rules (situation kept old (Command c)) ≡ first_failed kind_rules (situation kept old (Command c)) =
-    passed naming_rules (request_rules ++ kind_rules) (situation kept old (Command c)) names
-    ∙ passed request_rules kind_rules (situation kept old (Command c)) requests in
-    record {
-      ended = ap (λ (f : Option RuleRow). outcome_by f (situation kept old (Command c))) later
-          ∙ subst (λ (t : Situation). outcome_by (first_failed kind_rules t) t ≡ outcome_of r) (sym s) told.ended;
-      session = told.session ∙ ap (λ (k : Option Kind). state_answered r.rule.0 k c old) (sym is);
-      goes_on = told.goes_on;
-    }
+kind_outcome kept old c kind answers named names requests =
+    ap (λ (f : Option RuleRow). outcome_by f (heard_command kept old c answers)) (late_rules (answer_rules ++ proof_rules) kept old c answers names requests)
+    ∙ ap (λ (s : Situation). outcome_of kind_rules s) (known_so kept old c kind answers named)
 
--- a refusal leaves the session
-pub keeps_session : (b : Bool) (old new : State) → b ≡ false → (if b then new else old) ≡ old
-keeps_session true old new e = absurd (cc)
-keeps_session false old new e = refl
+-- questions by two functions that agree
+asked_alike : (f g : List Answer → Option Question) → ((answers : List Answer) → f answers ≡ g answers) → (given : List Answer) (asks : List Ask) → AreAsked f given asks → AreAsked g given asks
+asked_alike f g same given [] asked = sym (same given) ∙ asked
+asked_alike f g same given (ask ∷ later) asked =
+    (sym (same given) ∙ asked.0, asked.1, asked_alike f g same (given ++ ask.answer ∷ []) later asked.2)
 
-keeps : (rule : ℕ) (kind : Option Kind) (c : PlainCommand) (old : State) → (rule == 0) ≡ false → state_answered rule kind c old ≡ old
-keeps rule None c old e = refl
-keeps rule (Some kind) c old e = keeps_session (rule == 0) old _ e
+-- a command of a known kind, in a request that can be answered, is answered by the rules of its kind
+pub told_answers : (kept : FullRecord) (old : State) (c : PlainCommand) (kind : Kind) (asks : List Ask) (r : Reaction) → kind_named old.next c ≡ Some kind
+    → ((answers : List Answer) → refusal_by naming_rules (heard_command kept old c answers) ≡ None)
+    → ((answers : List Answer) → refusal_by request_rules (heard_command kept old c answers) ≡ None)
+    → Told kind kept old c asks r → Answers kept old (Command c) asks r
+told_answers kept old c kind asks r named names requests told = record {
+  asked = asked_alike (λ answers. question_by kind_rules (known kind kept old c answers)) (λ answers. question (heard_command kept old c answers))
+      (λ answers. sym (kind_question kept old c kind answers named (names answers) (requests answers))) [] asks told.asked;
+  ended = kind_outcome kept old c kind (answers_of asks) named (names (answers_of asks)) (requests (answers_of asks)) ∙ told.ended;
+  left = told.left ∙ ap (λ (k : Option Kind). state_due r.rule.0 (state_answered r.rule.0 k c (answers_of asks) old)) (sym named);
+}
+
+-- a rule on the objects of secure messaging
+abbrev pub is_on_objects : ℕ → Bool
+is_on_objects rule = rule == 2 || rule == 3
+
+rule_at : (b : Bool) (row : RuleRow) (rows : List RuleRow) (s : Situation) → is_on_objects row.number ≡ false → is_on_objects (outcome_by (first_failed rows s) s).rule ≡ false → is_on_objects (outcome_by (if b then Some row else first_failed rows s) s).rule ≡ false
+rule_at true row rows s here later = here
+rule_at false row rows s here later = later
+
+AreOthers : List RuleRow → Type 0
+AreOthers [] = Unit {0}
+AreOthers (row ∷ rows) = (is_on_objects row.number ≡ false) × AreOthers rows
+
+rule_of : (rows : List RuleRow) (s : Situation) → AreOthers rows → is_on_objects (outcome_by (first_failed rows s) s).rule ≡ false
+unfolding AreOthers
+rule_of [] s others = refl
+rule_of (row ∷ rows) s others = rule_at (concerns row.kinds s.kind && not (row.holds s)) row rows s others.0 (rule_of rows s others.1)
+
+-- a command that was heard fails none of them
+pub command_rule : (kept : FullRecord) (old : State) (c : PlainCommand) (answers : List Answer) (o : Outcome) → outcome (heard_command kept old c answers) ≡ o → is_on_objects o.rule ≡ false
+unfolding outcome AreOthers
+command_rule kept old c answers o is =
+    let s = heard_command kept old c answers in
+    let later = naming_rules ++ request_rules ++ kind_rules ++ answer_rules ++ proof_rules in
+    let found : first_failed (hearing_rules ++ later) s ≡ first_failed later s = passed hearing_rules later s refl in
+    ap (λ (x : Outcome). is_on_objects x.rule) (sym is) ∙ ap (λ (f : Option RuleRow). is_on_objects (outcome_by f s).rule) found
+    ∙ rule_of later s (refl, (refl, (refl, (refl, (refl, (refl, (refl, (refl, (refl, (refl, (refl, (refl, (refl, (refl, (refl, (refl, (refl, _)))))))))))))))))
+
+pub command_answered : (kept : FullRecord) (old : State) (c : PlainCommand) (asks : List Ask) (r : Reaction) → Answers kept old (Command c) asks r → is_on_objects r.rule.0 ≡ false
+command_answered kept old c asks r answers = command_rule kept old c (answers_of asks) (outcome_seen r) answers.ended
 
 -- the outcome of a refusal
 abbrev pub refused_so : PlainRefusal → Outcome
 refused_so r = record { rule = r.rule; reply = status_alone r.status }
 
--- a command whose class, instruction or parameters are refused
-pub name_refused : (kept : FullRecord) (old : State) (c : PlainCommand) (refused : PlainRefusal) → refusal_by naming_rules (heard_command kept old c) ≡ Some refused → outcome (heard_command kept old c) ≡ refused_so refused
-unfolding outcome
-name_refused kept old c refused fails = failed naming_rules (request_rules ++ kind_rules) (heard_command kept old c) refused fails
+if_not : {A : Type 0} (b : Bool) (x y : A) → b ≡ false → (if b then x else y) ≡ y
+if_not true x y e = absurd (cc)
+if_not false x y e = refl
 
--- a command of some kind in a request that is refused
-pub request_refused : (kept : FullRecord) (old : State) (c : PlainCommand) (refused : PlainRefusal) → refusal_by naming_rules (heard_command kept old c) ≡ None → refusal_by request_rules (heard_command kept old c) ≡ Some refused → outcome (heard_command kept old c) ≡ refused_so refused
-unfolding outcome
-request_refused kept old c refused names fails =
-    ap (λ (f : Option RuleRow). outcome_by f (heard_command kept old c)) (passed naming_rules (request_rules ++ kind_rules) (heard_command kept old c) names)
-    ∙ failed request_rules kind_rules (heard_command kept old c) refused fails
+-- a refused command leaves the state without a run
+pub refused_state : (rule : ℕ) (kind : Option Kind) (c : PlainCommand) (answers : List Answer) (old : State) → (rule == 0) ≡ false → state_answered rule kind c answers old ≡ ended_run old
+refused_state rule None c answers old e = refl
+refused_state rule (Some kind) c answers old e = if_not (rule == 0) (advanced kind c answers old) (ended_run old) e
 
--- a refusal that leaves the session is the answer
-pub refused_answers : (kept : FullRecord) (old : State) (c : PlainCommand) (refused : PlainRefusal) (r : Reaction) → outcome (heard_command kept old c) ≡ refused_so refused → (refused.rule == 0) ≡ false → ends_session_by refused.rule ≡ false → r.rule.0 ≡ refused.rule → plain_reply r.reply ≡ status_alone refused.status → state r.session ≡ old → Answers kept old (Command c) r
-refused_answers kept old c refused r whole is_one goes_on rule reply session =
-    let same : refused_so refused ≡ outcome_of r = rw (rule, reply) refl in
+-- a refusal puts no question, and is the answer
+pub refused_answers : (rows more later : List RuleRow) (kept : FullRecord) (old : State) (heard : Heard) (refused : PlainRefusal) (r : Reaction) → refusal_by rows (situation kept old heard []) ≡ Some refused
+    → question (situation kept old heard []) ≡ (if is_none (first_failed (rows ++ more) (situation kept old heard [])) then question_of (situation kept old heard []).kind (situation kept old heard []) else None)
+    → outcome (situation kept old heard []) ≡ outcome_by (first_failed (rows ++ later) (situation kept old heard [])) (situation kept old heard [])
+    → (refused.rule == 0) ≡ false → r.rule.0 ≡ refused.rule → plain_reply r.reply ≡ status_alone refused.status
+    → state_left r old.channel ≡ state_due refused.rule (ended_run old) → Answers kept old heard [] r
+refused_answers rows more later kept old heard refused r fails asks ends is_one rule reply left =
+    let s = situation kept old heard [] in
+    let same : refused_so refused ≡ outcome_seen r = rw (rule, reply) refl in
     record {
-      ended = whole ∙ same;
-      session = session ∙ sym (keeps r.rule.0 _ c old (rw rule is_one));
-      goes_on = rw rule goes_on;
+      asked = asks ∙ if_not (is_none (first_failed (rows ++ more) s)) (question_of s.kind s) None (some_failed rows more s refused fails);
+      ended = ends ∙ failed rows later s refused fails ∙ same;
+      left = left ∙ ap (λ (n : ℕ). state_due n (ended_run old)) (sym rule)
+          ∙ ap (λ (x : State). state_due r.rule.0 x) (sym (refused_state r.rule.0 (kind_heard old heard) (command_of heard) [] old (ap (λ (n : ℕ). n == 0) rule ∙ is_one)));
     }
 
+-- a command whose class, instruction or parameters are refused
+pub name_refused : (kept : FullRecord) (old : State) (c : PlainCommand) (refused : PlainRefusal) (r : Reaction) → refusal_by naming_rules (heard_command kept old c []) ≡ Some refused
+    → (refused.rule == 0) ≡ false → r.rule.0 ≡ refused.rule → plain_reply r.reply ≡ status_alone refused.status
+    → state_left r old.channel ≡ state_due refused.rule (ended_run old) → Answers kept old (Command c) [] r
+unfolding question outcome
+name_refused kept old c refused r fails is_one rule reply left =
+    let s = heard_command kept old c [] in
+    refused_answers naming_rules (request_rules ++ kind_rules ++ answer_rules) (request_rules ++ kind_rules ++ answer_rules ++ proof_rules) kept old (Command c) refused r fails
+    (ap (λ (f : Option RuleRow). if is_none f then question_of s.kind s else None) (passed hearing_rules (naming_rules ++ request_rules ++ kind_rules ++ answer_rules) s refl))
+    (ap (λ (f : Option RuleRow). outcome_by f s) (passed hearing_rules (naming_rules ++ request_rules ++ kind_rules ++ answer_rules ++ proof_rules) s refl))
+    is_one rule reply left
+
+-- a command of some kind in a request that is refused
+pub request_refused : (kept : FullRecord) (old : State) (c : PlainCommand) (refused : PlainRefusal) (r : Reaction) → refusal_by naming_rules (heard_command kept old c []) ≡ None → refusal_by request_rules (heard_command kept old c []) ≡ Some refused
+    → (refused.rule == 0) ≡ false → r.rule.0 ≡ refused.rule → plain_reply r.reply ≡ status_alone refused.status
+    → state_left r old.channel ≡ state_due refused.rule (ended_run old) → Answers kept old (Command c) [] r
+unfolding question outcome
+request_refused kept old c refused r names fails is_one rule reply left =
+    let s = heard_command kept old c [] in
+    refused_answers request_rules (kind_rules ++ answer_rules) (kind_rules ++ answer_rules ++ proof_rules) kept old (Command c) refused r fails
+    (ap (λ (f : Option RuleRow). if is_none f then question_of s.kind s else None)
+    (passed hearing_rules (naming_rules ++ request_rules ++ kind_rules ++ answer_rules) s refl ∙ passed naming_rules (request_rules ++ kind_rules ++ answer_rules) s names))
+    (ap (λ (f : Option RuleRow). outcome_by f s)
+    (passed hearing_rules (naming_rules ++ request_rules ++ kind_rules ++ answer_rules ++ proof_rules) s refl ∙ passed naming_rules (request_rules ++ kind_rules ++ answer_rules ++ proof_rules) s names))
+    is_one rule reply left
+
+-- bytes that are no command, or whose objects of secure messaging are missing or wrong
+pub hearing_refused : (kept : FullRecord) (old : State) (heard : Heard) (refused : PlainRefusal) (r : Reaction) → refusal_by hearing_rules (situation kept old heard []) ≡ Some refused
+    → (refused.rule == 0) ≡ false → r.rule.0 ≡ refused.rule → plain_reply r.reply ≡ status_alone refused.status
+    → state_left r old.channel ≡ state_due refused.rule (ended_run old) → Answers kept old heard [] r
+unfolding question outcome
+hearing_refused kept old heard refused r fails is_one rule reply left =
+    refused_answers hearing_rules (naming_rules ++ request_rules ++ kind_rules ++ answer_rules) (naming_rules ++ request_rules ++ kind_rules ++ answer_rules ++ proof_rules) kept old heard refused r fails
+    refl refl is_one rule reply left
+
 -- a request that is too long, and one that is not
-pub long_request : (kept : FullRecord) (old : State) (c : PlainCommand) → MAX_REQUEST < length c.body → refusal_by request_rules (heard_command kept old c) ≡ Some (record { rule = 8; status = 0x6700 })
-long_request kept old c long =
+pub long_request : (kept : FullRecord) (old : State) (c : PlainCommand) (answers : List Answer) → MAX_REQUEST < length c.body → refusal_by request_rules (heard_command kept old c answers) ≡ Some (record { rule = 8; status = 0x6700 })
+long_request kept old c answers long =
     let over : nat_le (length c.body) MAX_REQUEST ≡ false = grind (arith, nat_tests) in
     rw over refl
 
-pub request_passes : (kept : FullRecord) (old : State) (c : PlainCommand) → length c.body ≤ MAX_REQUEST → refusal_by request_rules (heard_command kept old c) ≡ None
-request_passes kept old c fits =
+pub request_passes : (kept : FullRecord) (old : State) (c : PlainCommand) (answers : List Answer) → length c.body ≤ MAX_REQUEST → refusal_by request_rules (heard_command kept old c answers) ≡ None
+request_passes kept old c answers fits =
     let within : nat_le (length c.body) MAX_REQUEST ≡ true = grind (arith, nat_tests) in
     rw within refl

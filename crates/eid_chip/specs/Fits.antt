@@ -1,7 +1,10 @@
 -- When a chip over a device fits a journal.
-use Rattle.std.specs.Prelude.{◌≡◌, ℕ, Bool, true, false, List, ◌∷◌, Option, Some, None, is_some, is_none, option_map, Result, Ok, Err}
+use Rattle.std.specs.Prelude.{◌≡◌, ℕ, Bool, true, false, List, [], ◌∷◌, Option, Some, None, is_some, is_none, option_map, Result, Ok, Err}
 use Rattle.eid_apdu.specs.Answer.{plain_reply}
 use Rattle.eid_cells.specs.Device.{Device}
+use Rattle.eid_copro.specs.Told.{Told}
+use Rattle.eid_copro.specs.declared.ask.Ask.{Ask}
+use Rattle.eid_pace.specs.Asking.{WereAsked}
 use Rattle.eid_record.specs.Plain.{FullRecord}
 use Rattle.eid_store.specs.declared.durable.MountError.{MountError}
 use Rattle.eid_store.specs.Stands.{stands}
@@ -14,7 +17,7 @@ use Rattle.eid_chip.specs.declared.running.Running.{Running}
 use Rattle.eid_chip.specs.declared.chip.Chip.{Chip}
 use Rattle.eid_chip.specs.declared.chip.Handled.{Handled}
 use Rattle.eid_chip.specs.declared.chip.Handled.TheVariants.{Silent, Answered}
-use Rattle.eid_chip.specs.Steps.{state}
+use Rattle.eid_chip.specs.States.{state}
 
 -- where the chip is on, its store fits the cells
 abbrev pub IsSoundLife : Option Running → Device → List ℕ → Type 0
@@ -27,7 +30,7 @@ IsSound chip device cells = IsSoundLife chip.life device cells
 -- where the chip is on, its state is that of the live moments
 abbrev pub HasState : Option Running → List PlainMoment → Type 0
 HasState None moments = Unit {0}
-HasState (Some running) moments = state running.session ≡ state_of (live moments)
+HasState (Some running) moments = state running.session running.channel ≡ state_of (live moments)
 
 -- The chip over its device is where these moments leave a chip whose cells stood for this record.
 pub record Fits (chip : Chip) (device : Device) (cells : List ℕ) (opening : FullRecord) (moments : List PlainMoment) : Type 0 where
@@ -41,12 +44,13 @@ pub record Fits (chip : Chip) (device : Device) (cells : List ℕ) (opening : Fu
 abbrev pub Follows : Chip → Device → List ℕ → Chip → Device → List ℕ → PlainMoment → Type 0
 Follows old device cells new new_device new_cells m = (opening : FullRecord) (before : List PlainMoment) → Fits old device cells opening before → IsLegalMoment opening before m × Fits new new_device new_cells opening (m ∷ before)
 
--- the moment of bytes handled so
-abbrev pub handled : List ℕ → Handled → PlainMoment
-handled bytes Silent = silent (Received bytes)
-handled bytes (Answered plain finished rule answer sent) = record {
+-- the moment of bytes handled so, with these questions
+abbrev pub handled : List ℕ → List Ask → Handled → PlainMoment
+handled bytes asks Silent = silent (Received bytes)
+handled bytes asks (Answered plain finished rule answer sent) = record {
   input = Received bytes;
   plain = option_map view.plain plain;
+  asks = asks;
   finished = finished;
   rule = rule.0;
   answer = Some (plain_reply answer);
@@ -64,3 +68,10 @@ is_silent (Answered plain finished rule answer sent) = false
 
 abbrev pub is_off : Chip → Bool
 is_off chip = is_none chip.life
+
+-- bytes were handled: the coprocessor's log grew by the questions of a moment that follows
+pub record Handles {C : Type 0} (log : C → List Ask) (spare faults : C → ℕ) (told : C → Told) (before after : C) (old : Chip) (device : Device) (cells : List ℕ) (new : Chip) (new_device : Device) (new_cells bytes : List ℕ) (result : Handled) : Type 0 where
+  pub asks : List Ask
+  pub were_asked : WereAsked log spare faults told before after asks
+  pub unasked : is_silent result ≡ true → asks ≡ []
+  pub follows : Follows old device cells new new_device new_cells (handled bytes asks result)

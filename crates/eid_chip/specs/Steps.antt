@@ -1,23 +1,29 @@
--- What one step of the chip promises: the outcome by the rules, and what the session is after it.
-use Rattle.std.specs.Prelude.{◌≡◌, ℕ, false, List, Option, Some, None, option_map}
+-- What one step of the chip promises: the questions that it puts, the outcome by the rules, and what the session is
+-- after it.
+use Rattle.std.specs.Prelude.{◌≡◌, ℕ, ◌==◌, ◌||◌, List, [], Option, Some, None, option_map, if◌then◌else◌}
+use Rattle.std.specs.Option.{option_or}
 use Rattle.eid_apdu.specs.Command.{PlainCommand}
-use Rattle.eid_apdu.specs.Answer.{plain_reply}
+use Rattle.eid_apdu.specs.Answer.{PlainReply, plain_reply, spelled}
+use Rattle.eid_copro.specs.Told.{Told as ToldBefore}
+use Rattle.eid_copro.specs.declared.ask.Ask.{Ask}
+use Rattle.eid_copro.specs.declared.ask.Answer.{Answer}
 use Rattle.eid_record.specs.Plain.{FullRecord}
+use Rattle.eid_pace.specs.Asking.{WereAsked}
+use Rattle.eid_sm.specs.Keys.{ChannelState, advanced, next_counter}
+use Rattle.eid_sm.specs.Replies.{sealed}
 use Rattle.eid_model.specs.declared.kind.Kind.{Kind}
 use Rattle.eid_model.specs.Moments.{ends_session_by}
-use Rattle.eid_model.specs.Sessions.{State}
+use Rattle.eid_model.specs.Runs.{answers_of}
+use Rattle.eid_model.specs.Sessions.{State, fresh, two_messages_later}
 use Rattle.eid_model.specs.Rules.{Heard, Command, plain_of, Situation, RuleRow, kind_rules, first_failed}
-use Rattle.eid_model.specs.Answers.{Outcome, outcome, outcome_by, situation, kind_heard, command_of, state_answered}
-use Rattle.eid_model.specs.Legal.{IsHeard}
+use Rattle.eid_model.specs.Answers.{Outcome, outcome, question, outcome_of, question_by, situation, kind_heard, command_of, state_answered}
+use Rattle.eid_model.specs.Legal.{IsHeard, AreAsked}
 use Rattle.eid_model.specs.View as view
 use Rattle.eid_chip.specs.declared.session.Session.{Session}
+use Rattle.eid_chip.specs.States.{state}
 use Rattle.eid_chip.specs.declared.refusal.Refusal.{Refusal}
 use Rattle.eid_chip.specs.declared.reaction.Reaction.{Reaction}
 use Rattle.eid_chip.specs.declared.reaction.Response.{Response}
-
--- the state that a session of the code is
-abbrev pub state : Session → State
-state s = record { next = None; selected = s.selected; current = option_map (λ file. file.0) s.current }
 
 -- A refusal as numbers.
 pub record PlainRefusal : Type 0 where
@@ -32,35 +38,74 @@ abbrev pub refusal_by : List RuleRow → Situation → Option PlainRefusal
 refusal_by rows s = option_map (λ row. record { rule = row.number; status = row.status s }) (first_failed rows s)
 
 -- a situation in which the kind is known
-abbrev pub known : Kind → FullRecord → State → PlainCommand → Situation
-known kind kept old c = record { heard = Command c; command = c; kind = Some kind; kept = kept; state = old }
+abbrev pub known : Kind → FullRecord → State → PlainCommand → List Answer → Situation
+known kind kept old c answers =
+    record { heard = Command c; command = c; kind = Some kind; kept = kept; state = old; answers = answers }
 
--- what a step answered, and the state after it
-abbrev pub outcome_of : Reaction → Outcome
-outcome_of r = record { rule = r.rule.0; reply = plain_reply r.reply }
+-- what a step answered
+abbrev pub outcome_seen : Reaction → Outcome
+outcome_seen r = record { rule = r.rule.0; reply = plain_reply r.reply }
 
--- a command of a known kind was answered by the first failed of the kind's rules, and left this state
-pub record Told (kind : Kind) (kept : FullRecord) (old : State) (c : PlainCommand) (reaction : Reaction) : Type 0 where
-  pub ended : outcome_by (first_failed kind_rules (known kind kept old c)) (known kind kept old c) ≡ outcome_of reaction
-  pub session : state reaction.session ≡ state_answered reaction.rule.0 (Some kind) c old
-  pub goes_on : ends_session_by reaction.rule.0 ≡ false
+-- the channel after a step: the one that it opened, or the one before, two messages later; none where the session ended
+abbrev pub channel_left : Reaction → Option ChannelState → Option ChannelState
+channel_left r channel =
+    if ends_session_by r.rule.0 then None else option_or r.opened (option_map two_messages_later channel)
+
+-- the state after a step
+abbrev pub state_left : Reaction → Option ChannelState → State
+state_left r channel = state r.session (channel_left r channel)
+
+-- the state that a moment leaves: a fresh one where it ends the session
+abbrev pub state_due : ℕ → State → State
+state_due rule answered = if ends_session_by rule then fresh else answered
+
+-- a command of a known kind put these questions, was answered by the first failed of the kind's rules and those over
+-- the answers, and left this state
+pub record Told (kind : Kind) (kept : FullRecord) (old : State) (c : PlainCommand) (asks : List Ask) (reaction : Reaction) : Type 0 where
+  pub asked : AreAsked (λ answers. question_by kind_rules (known kind kept old c answers)) [] asks
+  pub ended : outcome_of kind_rules (known kind kept old c (answers_of asks)) ≡ outcome_seen reaction
+  pub left : state_left reaction old.channel ≡ state_due reaction.rule.0 (state_answered reaction.rule.0 (Some kind) c (answers_of asks) old)
+
+-- a command of a known kind put questions, by which the log grew, and was answered by them, in any channel
+pub record Stepped {C : Type 0} (log : C → List Ask) (spare faults : C → ℕ) (told : C → ToldBefore) (before after : C) (kind : Kind) (kept : FullRecord) (session : Session) (c : PlainCommand) (reaction : Reaction) : Type 0 where
+  pub asks : List Ask
+  pub were_asked : WereAsked log spare faults told before after asks
+  pub tells : (channel : Option ChannelState) → Told kind kept (state session channel) c asks reaction
 
 abbrev pub as_heard : PlainCommand → Heard
 as_heard c = Command c
 
--- a command was answered by the first failed rule, and left this state
-pub record Answers (kept : FullRecord) (old : State) (heard : Heard) (reaction : Reaction) : Type 0 where
-  pub ended : outcome (situation kept old heard) ≡ outcome_of reaction
-  pub session : state reaction.session ≡ state_answered reaction.rule.0 (kind_heard old heard) (command_of heard) old
-  pub goes_on : ends_session_by reaction.rule.0 ≡ false
+-- a command put these questions, was answered by the first failed rule, and left this state
+pub record Answers (kept : FullRecord) (old : State) (heard : Heard) (asks : List Ask) (reaction : Reaction) : Type 0 where
+  pub asked : AreAsked (λ answers. question (situation kept old heard answers)) [] asks
+  pub ended : outcome (situation kept old heard (answers_of asks)) ≡ outcome_seen reaction
+  pub left : state_left reaction old.channel ≡ state_due reaction.rule.0 (state_answered reaction.rule.0 (kind_heard old heard) (command_of heard) (answers_of asks) old)
 
--- bytes were heard and answered
-pub record Responds (kept : FullRecord) (old : State) (bytes : List ℕ) (response : Response) : Type 0 where
+-- a command put questions, by which the log grew, and was answered by them, in any channel
+pub record Reacts {C : Type 0} (log : C → List Ask) (spare faults : C → ℕ) (told : C → ToldBefore) (before after : C) (kept : FullRecord) (session : Session) (c : PlainCommand) (reaction : Reaction) : Type 0 where
+  pub asks : List Ask
+  pub were_asked : WereAsked log spare faults told before after asks
+  pub answers : (channel : Option ChannelState) → Answers kept (state session channel) (Command c) asks reaction
+
+-- bytes were heard, in a channel or without one, and answered
+pub record Responds {C : Type 0} (log : C → List Ask) (spare faults : C → ℕ) (told : C → ToldBefore) (before after : C) (kept : FullRecord) (session : Session) (channel : Option ChannelState) (bytes : List ℕ) (response : Response) : Type 0 where
   pub heard : Heard
-  pub hears : IsHeard bytes heard
+  pub hears : IsHeard channel bytes heard
   pub plain : option_map view.plain response.plain ≡ plain_of heard
-  pub answers : Answers kept old heard response.reaction
+  pub asks : List Ask
+  pub were_asked : WereAsked log spare faults told before after asks
+  pub answers : Answers kept (state session channel) heard asks response.reaction
+
+-- the channel while the answer is made: where a protected command was heard, one message later
+abbrev pub heard_in : ℕ → Option ChannelState → Option ChannelState
+heard_in rule channel = if rule == 2 || rule == 3 then channel else option_map advanced channel
+
+-- a reply as it is sent in this channel, where it is the next message
+abbrev pub sent_next : Option ChannelState → ℕ → PlainReply → List ℕ
+sent_next None rule reply = spelled reply
+sent_next (Some channel) rule reply =
+    if rule == 2 || rule == 3 then spelled reply else sealed channel.keys (next_counter channel.counter) reply
 
 -- a situation in which a command was heard
-abbrev pub heard_command : FullRecord → State → PlainCommand → Situation
-heard_command kept old c = situation kept old (Command c)
+abbrev pub heard_command : FullRecord → State → PlainCommand → List Answer → Situation
+heard_command kept old c answers = situation kept old (Command c) answers

@@ -1,20 +1,31 @@
 //! The chip, and what it does with the bytes of a command.
-ghost use Rattle.std.specs.Prelude.{◌≡◌, ◌≢◌, ◌≤◌, ◌↔◌, true, false, length, slice_index};
+ghost use Rattle.std.specs.Prelude.{◌≡◌, ◌≢◌, ◌≤◌, ◌↔◌, true, false, length, slice_index, Option, Some, None, if◌then◌else◌};
+ghost use Rattle.std.specs.Option.{option_or};
+ghost use Rattle.arrayvec.specs.ArrayVec.{array_vec_len};
 ghost use Rattle.eid_apdu.specs.Command.{plain_command};
 ghost use Rattle.eid_record.specs.Plain.{FullRecord};
 ghost use Rattle.eid_cells.specs.Device.{WasCut};
 ghost use Rattle.eid_store.specs.Store as stored;
 ghost use Rattle.eid_store.specs.Stands.{stands};
-ghost use Rattle.eid_model.specs.Moments.{PoweredOn, PoweredOff};
-ghost use Rattle.eid_model.specs.Rules.{NoCommand};
+ghost use Rattle.eid_apdu.specs.Answer.{plain_reply};
+ghost use Rattle.eid_sm.specs.Keys.{ChannelState};
+ghost use Rattle.eid_model.specs.Moments.{PoweredOn, PoweredOff, ends_session_by};
+ghost use Rattle.eid_model.specs.Sessions.{ended_run};
+ghost use Rattle.eid_model.specs.Kinds.{goes_on_in_run};
+ghost use Rattle.eid_model.specs.Answers.{status_alone};
 ghost use Rattle.eid_model.specs.Legal.{silent};
 ghost use Rattle.eid_model.specs.View as view;
 ghost use Rattle.eid_chip.specs.Held.{held};
-ghost use Rattle.eid_chip.specs.Steps.{Answers, Responds, Told, state, as_heard};
+ghost use Rattle.eid_chip.specs.States.{next_of, state};
+ghost use Rattle.eid_chip.specs.Steps.{Reacts, Responds, Stepped, heard_in, sent_next, state_due, state_left};
 
+use crate::ending::{ends_session, refused};
 use crate::naming::kind_of;
-use crate::reaction::{Reaction, Response, refused};
-use crate::refusal::{LONG_REQUEST, NO_COMMAND};
+use crate::pace::{
+    encrypted_nonce, map_nonce, mutual_authentication, perform_key_agreement, select_pace,
+};
+use crate::reaction::{Reaction, Response};
+use crate::refusal::{LONG_REQUEST, NO_COMMAND, NO_OBJECTS, NO_STEP, Refusal, WRONG_OBJECTS};
 use crate::running::Running;
 use crate::select::{read_binary, select_application, select_file, select_master_file};
 use crate::session::Session;
@@ -22,7 +33,9 @@ use arrayvec::ArrayVec;
 use eid_apdu::{Command, Reply, read_command, write_reply};
 use eid_base::Rule;
 use eid_cells::Eeprom;
+use eid_copro::Coprocessor;
 use eid_model::{Kind, MAX_BODY, Plain};
+use eid_sm::{Channel, SmError};
 use eid_store::{MountError, Store};
 use std::mem;
 
@@ -67,76 +80,189 @@ fn own(c: &Command<'_>) -> Plain
 }
 
 /// Carries out a command of this kind, or refuses it by the first failed rule of its kind.
-fn carry_out<E: Eeprom>(
+fn carry_out<E: Eeprom, C: Coprocessor>(
     kind: Kind,
     session: Session,
     store: &Store,
     cells: &E,
+    copro: &mut C,
     c: &Command<'_>,
 ) -> Reaction
-    requires { stored.Fits store.now (E.device cells.now) (E.cells cells.now) }
-    ensures { Told kind (held (E.cells cells.now)) (state session) (plain_command c.now) result }
+    requires fits { stored.Fits store.now (E.device cells.now) (E.cells cells.now) }
+    requires room { 2 ≤ C.spare copro.old }
+    requires turn { goes_on_in_run kind ≡ true → next_of session.run ≡ Some kind }
+    ensures { Stepped C.log C.spare C.faults C.told copro.old copro.new kind (held (E.cells cells.now)) session (plain_command c.now) result }
 {
     match kind {
         Kind::SelectApplication => select_application(session, c),
         Kind::SelectMasterFile => select_master_file(session, c),
         Kind::SelectFile => select_file(session, c),
         Kind::ReadBinary => read_binary(session, store, cells, c),
+        Kind::SelectPace => select_pace(session, c),
+        Kind::EncryptedNonce => encrypted_nonce(session, store, cells, copro, c),
+        Kind::MapNonce => map_nonce(session, copro, c),
+        Kind::PerformKeyAgreement => perform_key_agreement(session, copro, c),
+        Kind::MutualAuthentication => mutual_authentication(session, store, cells, c),
+        Kind::NoStep => refused(NO_STEP, session),
     }
 }
 
 /// Carries a command out, or refuses it by the first failed rule.
-fn react<E: Eeprom>(session: Session, store: &Store, cells: &E, c: &Command<'_>) -> Reaction
-    requires { stored.Fits store.now (E.device cells.now) (E.cells cells.now) }
-    ensures { Answers (held (E.cells cells.now)) (state session) (as_heard (plain_command c.now)) result }
+fn react<E: Eeprom, C: Coprocessor>(
+    session: Session,
+    store: &Store,
+    cells: &E,
+    copro: &mut C,
+    c: &Command<'_>,
+) -> Reaction
+    requires fits { stored.Fits store.now (E.device cells.now) (E.cells cells.now) }
+    requires room { 2 ≤ C.spare copro.old }
+    ensures { Reacts C.log C.spare C.faults C.told copro.old copro.new (held (E.cells cells.now)) session (plain_command c.now) result }
 {
-    let kind = match kind_of(c) {
+    let kind = match kind_of(c, &session.run) {
         Ok(kind) => kind,
         Err(refusal) => return refused(refusal, session),
     };
     if c.body.len() > MAX_REQUEST {
         return refused(LONG_REQUEST, session);
     }
-    carry_out(kind, session, store, cells, c)
+    carry_out(kind, session, store, cells, copro, c)
 }
 
-/// Hears the bytes of a command and answers them.
-fn respond<E: Eeprom>(session: Session, store: &Store, cells: &E, bytes: &[u8]) -> Response
-    requires { stored.Fits store.now (E.device cells.now) (E.cells cells.now) }
-    ensures { Responds (held (E.cells cells.now)) (state session) bytes.now result }
-{
-    let Ok(c) = read_command(bytes) else {
-        return not_heard(session);
-    };
-    if c.body.len() > MAX_BODY {
-        return not_heard(session);
-    }
-    Response {
-        plain: Some(own(&c)),
-        reaction: react(session, store, cells, &c),
-    }
-}
-
-/// The response where the bytes are no command, or its body is too long.
-#[tactic(auto, unfolding(eid_model::specs::Answers::outcome))]
-fn not_heard(session: Session) -> Response
+/// The response where nothing was heard that can be carried out.
+fn not_heard(refusal: Refusal, session: Session) -> Response
     ensures plain { result.plain ≡ None }
-    ensures answers { (kept : FullRecord) → Answers kept (state session) NoCommand result.reaction }
+    ensures reaction { (result.reaction.rule ≡ refusal.rule) × (plain_reply result.reaction.reply ≡ status_alone refusal.status.0) }
+    ensures left { (channel : Option ChannelState) → state_left result.reaction channel ≡ state_due refusal.rule.0 (ended_run (state session channel)) }
 {
     Response {
         plain: None,
-        reaction: refused(NO_COMMAND, session),
+        reaction: refused(refusal, session),
+    }
+}
+
+/// Hears the bytes of a command without a channel, and answers them.
+fn respond<E: Eeprom, C: Coprocessor>(
+    session: Session,
+    store: &Store,
+    cells: &E,
+    copro: &mut C,
+    bytes: &[u8],
+) -> Response
+    requires fits { stored.Fits store.now (E.device cells.now) (E.cells cells.now) }
+    requires room { 2 ≤ C.spare copro.old }
+    ensures { Responds C.log C.spare C.faults C.told copro.old copro.new (held (E.cells cells.now)) session None bytes.now result }
+{
+    let Ok(c) = read_command(bytes) else {
+        return not_heard(NO_COMMAND, session);
+    };
+    if c.body.len() > MAX_BODY {
+        return not_heard(NO_COMMAND, session);
+    }
+    Response {
+        plain: Some(own(&c)),
+        reaction: react(session, store, cells, copro, &c),
+    }
+}
+
+/// Hears the bytes of a command in a channel, and answers them.
+fn respond_in<E: Eeprom, C: Coprocessor>(
+    channel: &mut Channel,
+    session: Session,
+    store: &Store,
+    cells: &E,
+    copro: &mut C,
+    bytes: &[u8],
+) -> Response
+    requires fits { stored.Fits store.now (E.device cells.now) (E.cells cells.now) }
+    requires room { 2 ≤ C.spare copro.old }
+    ensures response { Responds C.log C.spare C.faults C.told copro.old copro.new (held (E.cells cells.now)) session (Some channel.old) bytes.now result }
+    ensures channel { Some channel.new ≡ heard_in result.reaction.rule.0 (Some channel.old) }
+{
+    let mut body = ArrayVec::new();
+    let header = match channel.unwrap(bytes, &mut body) {
+        Ok(header) => header,
+        Err(SmError::Missing) => return not_heard(NO_OBJECTS, session),
+        Err(SmError::Wrong) => return not_heard(WRONG_OBJECTS, session),
+    };
+    let c = Command {
+        cla: header.cla,
+        ins: header.ins,
+        p1: header.p1,
+        p2: header.p2,
+        body: body.as_slice(),
+        ne: header.ne,
+    };
+    let reaction = react(session, store, cells, copro, &c);
+    Response {
+        plain: Some(Plain {
+            cla: header.cla,
+            ins: header.ins,
+            p1: header.p1,
+            p2: header.p2,
+            body,
+            ne: header.ne,
+        }),
+        reaction,
+    }
+}
+
+/// Hears the bytes of a command, in a channel where one is open, and answers them.
+fn respond_any<E: Eeprom, C: Coprocessor>(
+    channel: &mut Option<Channel>,
+    session: Session,
+    store: &Store,
+    cells: &E,
+    copro: &mut C,
+    bytes: &[u8],
+) -> Response
+    requires fits { stored.Fits store.now (E.device cells.now) (E.cells cells.now) }
+    requires room { 2 ≤ C.spare copro.old }
+    ensures response { Responds C.log C.spare C.faults C.told copro.old copro.new (held (E.cells cells.now)) session channel.old bytes.now result }
+    ensures channel { channel.new ≡ heard_in result.reaction.rule.0 channel.old }
+{
+    match channel {
+        None => respond(session, store, cells, copro, bytes),
+        Some(channel) => respond_in(channel, session, store, cells, copro, bytes),
+    }
+}
+
+/// Writes a reply as it is sent: in a channel protected, but by the rules on the objects of secure
+/// messaging.
+fn send(channel: &mut Option<Channel>, reaction: &Reaction, out: &mut ArrayVec<u8, MAX_BODY>)
+    requires { array_vec_len out.old ≡ 0 }
+    ensures sent { out.new.items ≡ sent_next channel.old reaction.now.rule.0 (plain_reply reaction.now.reply) }
+    ensures channel { channel.new ≡ heard_in reaction.now.rule.0 channel.old }
+{
+    match channel {
+        Some(channel) if reaction.rule.0 != 2 && reaction.rule.0 != 3 => {
+            channel.seal(&reaction.reply, out);
+        }
+        _ => write_reply(&reaction.reply, out).unwrap(),
+    }
+}
+
+/// The channel after a step: the one that the step opened, or the one before.
+fn channel_after(rule: Rule, opened: Option<Channel>, channel: Option<Channel>) -> Option<Channel>
+    ensures { result ≡ (if ends_session_by rule.0 then None else option_or opened channel) }
+{
+    if ends_session(rule) {
+        return None;
+    }
+    match opened {
+        Some(opened) => Some(opened),
+        None => channel,
     }
 }
 
 /// A chip. Where it has power it has the store that it mounted and a session.
-#[derive(Debug, Drop)]
+#[derive(Drop)]
 pub struct Chip {
     life: Option<Running>,
 }
 
 impl Chip {
-    ghost use Rattle.eid_chip.specs.Fits.{Follows, IsSound, handled, found, is_silent, is_off};
+    ghost use Rattle.eid_chip.specs.Fits.{Follows, Handles, IsSound, found, is_silent, is_off};
 
     /// A chip without power.
     pub fn new() -> Chip
@@ -169,6 +295,7 @@ impl Chip {
                 self.life = Some(Running {
                     store,
                     session: Session::new(),
+                    channel: None,
                 });
                 Ok(number)
             }
@@ -191,10 +318,17 @@ impl Chip {
     }
 
     /// Handles the bytes of a command: answers them by the first failed rule, or carries them out.
-    /// `Silent` comes exactly where the chip is off.
-    pub fn handle<E: Eeprom>(&mut self, bytes: &[u8], cells: &mut E) -> Handled
-        requires { IsSound self.old (E.device cells.old) (E.cells cells.old) }
-        ensures follows { Follows self.old (E.device cells.old) (E.cells cells.old) self.new (E.device cells.new) (E.cells cells.new) (handled bytes.now result) }
+    /// `Silent` comes exactly where the chip is off. The coprocessor's log grows by the questions of the
+    /// command.
+    pub fn handle<E: Eeprom, C: Coprocessor>(
+        &mut self,
+        bytes: &[u8],
+        cells: &mut E,
+        copro: &mut C,
+    ) -> Handled
+        requires sound { IsSound self.old (E.device cells.old) (E.cells cells.old) }
+        requires room { 2 ≤ C.spare copro.old }
+        ensures handles { Handles C.log C.spare C.faults C.told copro.old copro.new self.old (E.device cells.old) (E.cells cells.old) self.new (E.device cells.new) (E.cells cells.new) bytes.now result }
         ensures sound { IsSound self.new (E.device cells.new) (E.cells cells.new) }
         ensures silent { is_silent result ≡ is_off self.old }
         ensures same { E.cells cells.new ≡ E.cells cells.old }
@@ -202,19 +336,37 @@ impl Chip {
         let Some(running) = mem::replace(&mut self.life, None) else {
             return Handled::Silent;
         };
-        let Running { store, session } = running;
-        let response = respond(session, &store, cells, bytes);
+        let Running {
+            store,
+            session,
+            mut channel,
+        } = running;
+        let Response { plain, reaction } = respond_any(
+            &mut channel,
+            session,
+            &store,
+            cells,
+            copro,
+            bytes,
+        );
+        let mut sent = ArrayVec::new();
+        send(&mut channel, &reaction, &mut sent);
+        let Reaction {
+            rule,
+            reply,
+            session,
+            opened,
+        } = reaction;
         self.life = Some(Running {
             store,
-            session: response.reaction.session,
+            session,
+            channel: channel_after(rule, opened, channel),
         });
-        let mut sent = ArrayVec::new();
-        write_reply(&response.reaction.reply, &mut sent).unwrap();
         Handled::Answered {
-            plain: response.plain,
+            plain,
             finished: 0,
-            rule: response.reaction.rule,
-            answer: response.reaction.reply,
+            rule,
+            answer: reply,
             sent,
         }
     }

@@ -1,5 +1,6 @@
 //! Files by their identifiers (BSI TR-03110-4), and ranges of their bytes.
 ghost use Rattle.std.specs.Prelude.{◌≡◌, ◌+◌, ◌≤◌, ◌==◌, ◌&&◌, ◌||◌, [], not, drop, nat_lt, option_map, unwrap_or, length, IfSome, IsSomeAnd, slice_index_or, slice_range, if◌then◌else◌};
+ghost use Rattle.arrayvec.specs.ArrayVec.{array_vec_len};
 ghost use Rattle.eid_apdu.specs.Answer.{plain_reply};
 ghost use Rattle.eid_model.specs.Kinds as kinds;
 ghost use Rattle.eid_model.specs.Answers.{read_reply};
@@ -130,7 +131,8 @@ pub fn read_answer<E: Eeprom>(
     requires fits { stored.Fits store.now (E.device cells.now) (E.cells cells.now) }
     requires there { option_map (λ bytes. length bytes) (held_file (E.cells cells.now) file.0) ≡ Some (offset + left) }
     requires small { left ≤ 2048 }
-    ensures { plain_reply result ≡ read_reply (drop offset (unwrap_or (held_file (E.cells cells.now) file.0) [])) ne }
+    ensures reply { plain_reply result ≡ read_reply (drop offset (unwrap_or (held_file (E.cells cells.now) file.0) [])) ne }
+    ensures small { array_vec_len result.content ≤ 2048 }
 {
     let count = usize::from(left).min(ne as usize);
     Reply {

@@ -1,9 +1,12 @@
 //! The chip: one command after the other, by the rules.
 #![tactic(auto)]
 
+mod authentication;
 mod chip;
+mod ending;
 mod files;
 mod naming;
+mod pace;
 mod reaction;
 mod refusal;
 mod running;

@@ -1,25 +1,30 @@
-//! The kind of a command, by class, instruction and parameters.
-ghost use Rattle.std.specs.Prelude.{◌≡◌, ◌==◌, false, IfOk, IfErr, OnOk};
+//! The kind of a command, by class, instruction and parameters, and where the run stands.
+ghost use Rattle.std.specs.Prelude.{◌≡◌, ◌==◌, List, true, false, IfOk, IfErr, OnOk};
 ghost use Rattle.eid_apdu.specs.Command.{plain_command};
-ghost use Rattle.eid_model.specs.Kinds.{kind_named};
+ghost use Rattle.eid_model.specs.Kinds.{goes_on_in_run, kind_named};
+ghost use Rattle.eid_copro.specs.declared.ask.Answer.{Answer};
 ghost use Rattle.eid_record.specs.Plain.{FullRecord};
 ghost use Rattle.eid_model.specs.Moments.{ends_session_by};
 ghost use Rattle.eid_model.specs.Sessions.{State};
 ghost use Rattle.eid_model.specs.Rules.{naming_rules};
+ghost use Rattle.eid_chip.specs.States.{next_of};
 ghost use Rattle.eid_chip.specs.Steps.{refusal, refusal_by, heard_command};
 
 use crate::refusal::{CLASS, INSTRUCTION, PARAMETERS, Refusal};
+use crate::session::Run;
 use eid_apdu::Command;
 use eid_model::Kind;
 
 /// The kind of a SELECT, by its parameters.
-fn selection(c: &Command<'_>) -> Result<Kind, Refusal>
+fn selection(c: &Command<'_>, run: &Run) -> Result<Kind, Refusal>
     requires { (c.now.cla ≡ 0x00) × (c.now.ins ≡ 0xA4) }
-    ensures named { IfOk result (λ kind. kind_named None (plain_command c.now) ≡ Some kind) }
-    ensures passed { OnOk result ((kept : FullRecord) (old : State) → refusal_by naming_rules (heard_command kept old (plain_command c.now)) ≡ None) }
-    ensures refused { IfErr result (λ r. (kept : FullRecord) (old : State) → refusal_by naming_rules (heard_command kept old (plain_command c.now)) ≡ Some (refusal r)) }
+    ensures named { IfOk result (λ kind. kind_named (next_of run.now) (plain_command c.now) ≡ Some kind) }
+    ensures passed { OnOk result ((kept : FullRecord) (old : State) (answers : List Answer) → refusal_by naming_rules (heard_command kept old (plain_command c.now) answers) ≡ None) }
+    ensures refused { IfErr result (λ r. (kept : FullRecord) (old : State) (answers : List Answer) → refusal_by naming_rules (heard_command kept old (plain_command c.now) answers) ≡ Some (refusal r)) }
+    ensures turn { IfOk result (λ kind. goes_on_in_run kind ≡ true → next_of run.now ≡ Some kind) }
     ensures lasting { IfErr result (λ r. ((r.rule.0 == 0) ≡ false) × (ends_session_by r.rule.0 ≡ false)) }
 {
+    let _ = run;
     match u16::from(c.p1) * 256 + u16::from(c.p2) {
         0x040c => Ok(Kind::SelectApplication),
         0x000c => Ok(Kind::SelectMasterFile),
@@ -28,23 +33,104 @@ fn selection(c: &Command<'_>) -> Result<Kind, Refusal>
     }
 }
 
-/// The kind of a command, or the first refusal of its class, instruction or parameters.
-pub fn kind_of(c: &Command<'_>) -> Result<Kind, Refusal>
-    ensures named { IfOk result (λ kind. kind_named None (plain_command c.now) ≡ Some kind) }
-    ensures passed { OnOk result ((kept : FullRecord) (old : State) → refusal_by naming_rules (heard_command kept old (plain_command c.now)) ≡ None) }
-    ensures refused { IfErr result (λ r. (kept : FullRecord) (old : State) → refusal_by naming_rules (heard_command kept old (plain_command c.now)) ≡ Some (refusal r)) }
+/// The kind of a GENERAL AUTHENTICATE with class 00: the last step of PACE, where it is next.
+fn last_step(c: &Command<'_>, run: &Run) -> Kind
+    requires { (c.now.cla ≡ 0x00) × (c.now.ins ≡ 0x86) × (c.now.p1 ≡ 0) × (c.now.p2 ≡ 0) }
+    ensures named { kind_named (next_of run.now) (plain_command c.now) ≡ Some result }
+    ensures turn { goes_on_in_run result ≡ true → next_of run.now ≡ Some result }
+{
+    let _ = c;
+    match run {
+        Run::Idle => Kind::NoStep,
+        Run::Chosen(_) => Kind::NoStep,
+        Run::NonceSent(_) => Kind::NoStep,
+        Run::Mapped(_) => Kind::NoStep,
+        Run::Agreed(_) => Kind::MutualAuthentication,
+    }
+}
+
+/// The kind of a GENERAL AUTHENTICATE with class 10: a step of PACE that is not the last, where it is next.
+fn inner_step(c: &Command<'_>, run: &Run) -> Kind
+    requires { (c.now.cla ≡ 0x10) × (c.now.ins ≡ 0x86) × (c.now.p1 ≡ 0) × (c.now.p2 ≡ 0) }
+    ensures named { kind_named (next_of run.now) (plain_command c.now) ≡ Some result }
+    ensures turn { goes_on_in_run result ≡ true → next_of run.now ≡ Some result }
+{
+    let _ = c;
+    match run {
+        Run::Idle => Kind::NoStep,
+        Run::Chosen(_) => Kind::EncryptedNonce,
+        Run::NonceSent(_) => Kind::MapNonce,
+        Run::Mapped(_) => Kind::PerformKeyAgreement,
+        Run::Agreed(_) => Kind::NoStep,
+    }
+}
+
+/// The kind of a command of class 10, in which GENERAL AUTHENTICATE says that more steps follow.
+fn chained_kind(c: &Command<'_>, run: &Run) -> Result<Kind, Refusal>
+    requires { c.now.cla ≡ 0x10 }
+    ensures named { IfOk result (λ kind. kind_named (next_of run.now) (plain_command c.now) ≡ Some kind) }
+    ensures passed { OnOk result ((kept : FullRecord) (old : State) (answers : List Answer) → refusal_by naming_rules (heard_command kept old (plain_command c.now) answers) ≡ None) }
+    ensures refused { IfErr result (λ r. (kept : FullRecord) (old : State) (answers : List Answer) → refusal_by naming_rules (heard_command kept old (plain_command c.now) answers) ≡ Some (refusal r)) }
+    ensures turn { IfOk result (λ kind. goes_on_in_run kind ≡ true → next_of run.now ≡ Some kind) }
     ensures lasting { IfErr result (λ r. ((r.rule.0 == 0) ≡ false) × (ends_session_by r.rule.0 ≡ false)) }
 {
-    if c.cla == 0x10 || c.cla == 0x80 {
+    if c.ins != 0x86 {
         return Err(INSTRUCTION);
     }
-    if c.cla != 0x00 {
-        return Err(CLASS);
+    if c.p1 != 0 || c.p2 != 0 {
+        return Err(PARAMETERS);
     }
+    Ok(inner_step(c, run))
+}
+
+/// The kind of a GENERAL AUTHENTICATE of class 00.
+fn unchained_step(c: &Command<'_>, run: &Run) -> Result<Kind, Refusal>
+    requires { (c.now.cla ≡ 0x00) × (c.now.ins ≡ 0x86) }
+    ensures named { IfOk result (λ kind. kind_named (next_of run.now) (plain_command c.now) ≡ Some kind) }
+    ensures passed { OnOk result ((kept : FullRecord) (old : State) (answers : List Answer) → refusal_by naming_rules (heard_command kept old (plain_command c.now) answers) ≡ None) }
+    ensures refused { IfErr result (λ r. (kept : FullRecord) (old : State) (answers : List Answer) → refusal_by naming_rules (heard_command kept old (plain_command c.now) answers) ≡ Some (refusal r)) }
+    ensures turn { IfOk result (λ kind. goes_on_in_run kind ≡ true → next_of run.now ≡ Some kind) }
+    ensures lasting { IfErr result (λ r. ((r.rule.0 == 0) ≡ false) × (ends_session_by r.rule.0 ≡ false)) }
+{
+    if c.p1 != 0 || c.p2 != 0 {
+        return Err(PARAMETERS);
+    }
+    Ok(last_step(c, run))
+}
+
+/// The kind of a command of class 00.
+fn plain_kind(c: &Command<'_>, run: &Run) -> Result<Kind, Refusal>
+    requires { c.now.cla ≡ 0x00 }
+    ensures named { IfOk result (λ kind. kind_named (next_of run.now) (plain_command c.now) ≡ Some kind) }
+    ensures passed { OnOk result ((kept : FullRecord) (old : State) (answers : List Answer) → refusal_by naming_rules (heard_command kept old (plain_command c.now) answers) ≡ None) }
+    ensures refused { IfErr result (λ r. (kept : FullRecord) (old : State) (answers : List Answer) → refusal_by naming_rules (heard_command kept old (plain_command c.now) answers) ≡ Some (refusal r)) }
+    ensures turn { IfOk result (λ kind. goes_on_in_run kind ≡ true → next_of run.now ≡ Some kind) }
+    ensures lasting { IfErr result (λ r. ((r.rule.0 == 0) ≡ false) × (ends_session_by r.rule.0 ≡ false)) }
+{
     match c.ins {
-        0xa4 => selection(c),
+        0x22 if c.p1 == 0xc1 && c.p2 == 0xa4 => Ok(Kind::SelectPace),
+        0x22 => Err(PARAMETERS),
+        0x86 => unchained_step(c, run),
+        0xa4 => selection(c, run),
         0xb0 if c.p1 < 0xa0 => Ok(Kind::ReadBinary),
         0xb0 => Err(PARAMETERS),
         _ => Err(INSTRUCTION),
+    }
+}
+
+/// The kind of a command where the run stands there, or the first refusal of its class, instruction or
+/// parameters.
+pub fn kind_of(c: &Command<'_>, run: &Run) -> Result<Kind, Refusal>
+    ensures named { IfOk result (λ kind. kind_named (next_of run.now) (plain_command c.now) ≡ Some kind) }
+    ensures passed { OnOk result ((kept : FullRecord) (old : State) (answers : List Answer) → refusal_by naming_rules (heard_command kept old (plain_command c.now) answers) ≡ None) }
+    ensures refused { IfErr result (λ r. (kept : FullRecord) (old : State) (answers : List Answer) → refusal_by naming_rules (heard_command kept old (plain_command c.now) answers) ≡ Some (refusal r)) }
+    ensures turn { IfOk result (λ kind. goes_on_in_run kind ≡ true → next_of run.now ≡ Some kind) }
+    ensures lasting { IfErr result (λ r. ((r.rule.0 == 0) ≡ false) × (ends_session_by r.rule.0 ≡ false)) }
+{
+    match c.cla {
+        0x00 => plain_kind(c, run),
+        0x10 => chained_kind(c, run),
+        0x80 => Err(INSTRUCTION),
+        _ => Err(CLASS),
     }
 }

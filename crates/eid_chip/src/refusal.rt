@@ -13,6 +13,16 @@ pub const NO_COMMAND: Refusal = Refusal {
     rule: Rule(1),
     status: Status(0x6700),
 };
+/// In a channel: the objects of secure messaging are missing.
+pub const NO_OBJECTS: Refusal = Refusal {
+    rule: Rule(2),
+    status: Status(0x6987),
+};
+/// In a channel: the objects of secure messaging are wrong.
+pub const WRONG_OBJECTS: Refusal = Refusal {
+    rule: Rule(3),
+    status: Status(0x6988),
+};
 /// No kind has this class.
 pub const CLASS: Refusal = Refusal {
     rule: Rule(4),
@@ -33,10 +43,20 @@ pub const LONG_REQUEST: Refusal = Refusal {
     rule: Rule(8),
     status: Status(0x6700),
 };
+/// The step is not the run's next one.
+pub const NO_STEP: Refusal = Refusal {
+    rule: Rule(9),
+    status: Status(0x6985),
+};
 /// The body has not the form of the kind.
 pub const BODY_FORM: Refusal = Refusal {
     rule: Rule(10),
     status: Status(0x6A80),
+};
+/// The reference names no password that can be chosen.
+pub const NO_PASSWORD: Refusal = Refusal {
+    rule: Rule(11),
+    status: Status(0x6A88),
 };
 /// There is no current file.
 pub const NO_CURRENT_FILE: Refusal = Refusal {
@@ -53,6 +73,11 @@ pub const NO_PACE: Refusal = Refusal {
     rule: Rule(20),
     status: Status(0x6982),
 };
+/// The session has no terminal authentication.
+pub const NO_TERMINAL: Refusal = Refusal {
+    rule: Rule(26),
+    status: Status(0x6982),
+};
 /// The file is absent.
 pub const NO_FILE: Refusal = Refusal {
     rule: Rule(37),
@@ -62,4 +87,24 @@ pub const NO_FILE: Refusal = Refusal {
 pub const OFFSET: Refusal = Refusal {
     rule: Rule(38),
     status: Status(0x6B00),
+};
+/// A question to the coprocessor met a fault.
+pub const FAULT: Refusal = Refusal {
+    rule: Rule(50),
+    status: Status(0x6F00),
+};
+/// The terminal's ephemeral point is the chip's.
+pub const SAME_POINT: Refusal = Refusal {
+    rule: Rule(51),
+    status: Status(0x6300),
+};
+/// A question to the coprocessor was answered with no point.
+pub const NO_POINT: Refusal = Refusal {
+    rule: Rule(52),
+    status: Status(0x6A80),
+};
+/// The token is wrong.
+pub const WRONG_TOKEN: Refusal = Refusal {
+    rule: Rule(55),
+    status: Status(0x6300),
 };

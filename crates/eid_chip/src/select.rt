@@ -1,19 +1,23 @@
 //! SELECT and READ BINARY (ISO/IEC 7816-4).
-ghost use Rattle.std.specs.Prelude.{◌≡◌, ◌≤◌, ◌-◌, length, true, false, option_map, if◌then◌else◌};
+ghost use Rattle.std.specs.Prelude.{◌≡◌, ◌≤◌, ◌-◌, [], length, true, false, Option, Some, option_map, if◌then◌else◌};
 ghost use Rattle.eid_apdu.specs.Command.{plain_command};
 ghost use Rattle.eid_record.specs.Plain.{FullRecord};
 ghost use Rattle.eid_store.specs.Store as stored;
 ghost use Rattle.eid_model.specs.Kinds.{is_by_short, file_of_short};
 ghost use Rattle.eid_model.specs.Rules.{file_meant, offset_meant};
 ghost use Rattle.eid_chip.specs.Held.{held};
-ghost use Rattle.eid_chip.specs.Steps.{Told, state, known};
+ghost use Rattle.eid_sm.specs.Keys.{ChannelState};
+ghost use Rattle.eid_chip.specs.States.{state, without_run};
+ghost use Rattle.eid_chip.specs.Steps.{Told, known};
 
-use crate::files::{self, CARD_ACCESS, file_of_id, read_answer};
-use crate::reaction::{Reaction, carried_out, refused};
-use crate::refusal::{BODY_FORM, NO_CURRENT_FILE, NO_FILE, NO_PACE, NOT_NAMED, OFFSET};
-use crate::session::Session;
+use crate::ending::{answered, carried_out, refused};
+use crate::files::{self, CARD_ACCESS, CARD_SECURITY, file_of_id, read_answer};
+use crate::reaction::Reaction;
+use crate::refusal::{
+    BODY_FORM, NO_CURRENT_FILE, NO_FILE, NO_PACE, NO_TERMINAL, NOT_NAMED, OFFSET,
+};
+use crate::session::{Memory, Session, idle};
 use eid_apdu::Command;
-use eid_base::Rule;
 use eid_cells::Eeprom;
 use eid_model::Kind;
 use eid_record::FileNo;
@@ -24,7 +28,7 @@ const APPLICATION_ID: [u8; 9] = [0xe8, 0x07, 0x04, 0x00, 0x7f, 0x00, 0x07, 0x03,
 
 /// SELECT of the application.
 pub fn select_application(session: Session, c: &Command<'_>) -> Reaction
-    ensures { (kept : FullRecord) → Told Kind.SelectApplication kept (state session) (plain_command c.now) result }
+    ensures { (kept : FullRecord) (channel : Option ChannelState) → Told Kind.SelectApplication kept (state session channel) (plain_command c.now) [] result }
 {
     if c.body.is_empty() || c.body.len() > 16 {
         return refused(BODY_FORM, session);
@@ -32,28 +36,30 @@ pub fn select_application(session: Session, c: &Command<'_>) -> Reaction
     if c.body != APPLICATION_ID.as_slice() {
         return refused(NOT_NAMED, session);
     }
-    carried_out(Session {
+    carried_out(idle(Memory {
         selected: true,
         current: None,
-    })
+        pace: session.memory.pace,
+    }))
 }
 
 /// SELECT of the master file.
 pub fn select_master_file(session: Session, c: &Command<'_>) -> Reaction
-    ensures { (kept : FullRecord) → Told Kind.SelectMasterFile kept (state session) (plain_command c.now) result }
+    ensures { (kept : FullRecord) (channel : Option ChannelState) → Told Kind.SelectMasterFile kept (state session channel) (plain_command c.now) [] result }
 {
     if !c.body.is_empty() && c.body != [0x3f, 0x00].as_slice() {
         return refused(BODY_FORM, session);
     }
-    carried_out(Session {
+    carried_out(idle(Memory {
         selected: false,
         current: None,
-    })
+        pace: session.memory.pace,
+    }))
 }
 
 /// SELECT of a file. It never tells whether the file is there.
 pub fn select_file(session: Session, c: &Command<'_>) -> Reaction
-    ensures { (kept : FullRecord) → Told Kind.SelectFile kept (state session) (plain_command c.now) result }
+    ensures { (kept : FullRecord) (channel : Option ChannelState) → Told Kind.SelectFile kept (state session channel) (plain_command c.now) [] result }
 {
     let [high, low] = c.body else {
         return refused(BODY_FORM, session);
@@ -61,21 +67,22 @@ pub fn select_file(session: Session, c: &Command<'_>) -> Reaction
     let Some(file) = file_of_id(u16::from(*high) * 256 + u16::from(*low)) else {
         return refused(NOT_NAMED, session);
     };
-    carried_out(Session {
-        selected: session.selected,
+    carried_out(idle(Memory {
+        selected: session.memory.selected,
         current: Some(file),
-    })
+        pace: session.memory.pace,
+    }))
 }
 
 /// The file that READ BINARY means: of its short identifier, or the current one.
 #[tactic(auto, unfolding(eid_model::specs::Rules::file_meant))]
 fn meant_file(session: &Session, c: &Command<'_>) -> Option<FileNo>
-    ensures file { (kept : FullRecord) → file_meant (known Kind.ReadBinary kept (state session.now) (plain_command c.now)) ≡ option_map (λ file. file.0) result }
-    ensures current { is_by_short (plain_command c.now) ≡ false → result ≡ session.now.current }
+    ensures file { (kept : FullRecord) (channel : Option ChannelState) → file_meant (known Kind.ReadBinary kept (state session.now channel) (plain_command c.now) []) ≡ option_map (λ file. file.0) result }
+    ensures current { is_by_short (plain_command c.now) ≡ false → result ≡ session.now.memory.current }
     ensures named { is_by_short (plain_command c.now) ≡ true → file_of_short (c.now.p1 - 0x80) ≡ option_map (λ file. file.0) result }
 {
     if c.p1 < 0x80 {
-        session.current
+        session.memory.current
     } else {
         files::file_of_short(c.p1 - 0x80)
     }
@@ -94,19 +101,20 @@ fn meant_offset(c: &Command<'_>) -> u16
 
 /// The session after a READ BINARY of a file: a short identifier names it.
 fn after_read(session: Session, c: &Command<'_>, file: FileNo) -> Session
-    ensures selected { result.selected ≡ session.selected }
-    ensures current { result.current ≡ (if is_by_short (plain_command c.now) then Some file else session.current) }
+    ensures { (channel : Option ChannelState) → state result channel ≡ record (without_run (state session channel)) { current = if is_by_short (plain_command c.now) then Some file.0 else (state session channel).current } }
 {
     if c.p1 < 0x80 {
-        return session;
+        return session.without_run();
     }
-    Session {
-        selected: session.selected,
+    idle(Memory {
+        selected: session.memory.selected,
         current: Some(file),
-    }
+        pace: session.memory.pace,
+    })
 }
 
-/// READ BINARY. No file but EF.CardAccess is readable without PACE.
+/// READ BINARY. Without PACE only EF.CardAccess is readable, and no data group without terminal
+/// authentication.
 pub fn read_binary<E: Eeprom>(
     session: Session,
     store: &Store,
@@ -114,19 +122,22 @@ pub fn read_binary<E: Eeprom>(
     c: &Command<'_>,
 ) -> Reaction
     requires { stored.Fits store.now (E.device cells.now) (E.cells cells.now) }
-    ensures { Told Kind.ReadBinary (held (E.cells cells.now)) (state session) (plain_command c.now) result }
+    ensures { (channel : Option ChannelState) → Told Kind.ReadBinary (held (E.cells cells.now)) (state session channel) (plain_command c.now) [] result }
 {
     if !c.body.is_empty() {
         return refused(BODY_FORM, session);
     }
-    if c.p1 < 0x80 && session.current.is_none() {
+    if c.p1 < 0x80 && session.memory.current.is_none() {
         return refused(NO_CURRENT_FILE, session);
     }
     let Some(file) = meant_file(&session, c) else {
         return refused(NOT_NAMED, session);
     };
-    if file != CARD_ACCESS {
+    if file != CARD_ACCESS && session.memory.pace.is_none() {
         return refused(NO_PACE, session);
+    }
+    if file.0 > CARD_SECURITY.0 {
+        return refused(NO_TERMINAL, session);
     }
     let Some(length) = files::file_length(store, cells, file) else {
         return refused(NO_FILE, session);
@@ -135,9 +146,8 @@ pub fn read_binary<E: Eeprom>(
     if offset > length {
         return refused(OFFSET, session);
     }
-    Reaction {
-        rule: Rule(0),
-        reply: read_answer(store, cells, file, offset, length - offset, c.ne),
-        session: after_read(session, c, file),
-    }
+    answered(
+        read_answer(store, cells, file, offset, length - offset, c.ne),
+        after_read(session, c, file),
+    )
 }

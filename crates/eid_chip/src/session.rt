@@ -1,25 +1,88 @@
 //! What a session leaves from one command to the next.
-ghost use Rattle.std.specs.Prelude.{◌≡◌, false, None};
+ghost use Rattle.std.specs.Prelude.{◌≡◌, Option, None};
+ghost use Rattle.eid_sm.specs.Keys.{ChannelState};
+ghost use Rattle.eid_model.specs.Sessions.{fresh};
+ghost use Rattle.eid_chip.specs.States.{state, without_run};
 
-use eid_record::FileNo;
+use eid_bits::Template;
+use eid_pace::{Agreed, Chosen, Mapped, NonceSent};
+use eid_record::{FileNo, Password};
 
-/// The session of a chip with power.
+/// Where a run stands. The steps of PACE consume what the step before them left.
+#[derive(Debug, Drop)]
+pub enum Run {
+    /// There is no run.
+    Idle,
+    /// A password was chosen for PACE.
+    Chosen(Chosen),
+    /// The nonce was sent.
+    NonceSent(NonceSent),
+    /// The nonce was mapped to a base.
+    Mapped(Mapped),
+    /// The ephemeral points gave a secret.
+    Agreed(Agreed),
+}
+
+/// What is asked of the last PACE later.
 #[derive(Clone, Copy, Debug)]
-pub struct Session {
+pub struct LastPace {
+    /// The password.
+    pub password: Password,
+    /// The holder's template, where one was sent.
+    pub template: Option<Template>,
+    /// The X half of the chip's ephemeral point.
+    pub identity: [u8; 32],
+}
+
+/// What a session keeps wherever its run stands.
+#[derive(Clone, Copy, Debug)]
+pub struct Memory {
     /// Whether the application is selected.
     pub selected: bool,
     /// The file last named.
     pub current: Option<FileNo>,
+    /// The last PACE.
+    pub pace: Option<LastPace>,
+}
+
+/// The session of a chip with power.
+#[derive(Debug, Drop)]
+pub struct Session {
+    /// Where the run stands.
+    pub run: Run,
+    /// What is kept beside it.
+    pub memory: Memory,
 }
 
 impl Session {
     /// The session that power begins.
     pub fn new() -> Session
-        ensures { (result.selected ≡ false) × (result.current ≡ None) }
+        ensures { state result None ≡ fresh }
     {
         Session {
-            selected: false,
-            current: None,
+            run: Run::Idle,
+            memory: Memory {
+                selected: false,
+                current: None,
+                pace: None,
+            },
         }
+    }
+
+    /// The session without its run.
+    pub fn without_run(self) -> Session
+        ensures { (channel : Option ChannelState) → state result channel ≡ without_run (state self channel) }
+    {
+        idle(self.memory)
+    }
+}
+
+/// A session without a run.
+pub fn idle(memory: Memory) -> Session
+    ensures { (result.run ≡ Run.Idle) × (result.memory ≡ memory) }
+{
+    Session {
+        run: Run::Idle,
+        memory,
     }
 }

@@ -1,10 +1,24 @@
 -- What came determines the journal.
-use Rattle.std.proofs.Common.{◌≡◌, ℕ, Bool, true, false, List, [], ◌∷◌, ◌++◌, length, Some, None, refl, sym, ap, ◌∙◌, subst, arith, length-append}
+use Rattle.std.proofs.Common.{◌≡◌, ℕ, Bool, true, false, List, [], ◌∷◌, ◌++◌, length, Option, Some, None, refl, sym, ap, ◌∙◌, subst, arith, length-append, append_assoc}
 use Rattle.eid_apdu.proofs.OneCommand.{spells_one}
 use Rattle.eid_record.specs.Plain.{FullRecord}
-use Rattle.eid_model.specs.Moments.{Event, PoweredOn, PoweredOff, Received, PlainMoment, PlainLine, line_of, on, AreSteady, is_steady, script}
-use Rattle.eid_model.specs.Rules.{Heard, NoCommand, Command}
-use Rattle.eid_model.specs.Legal.{IsHeard, IsAnswered, IsHandled, IsLegalFor, IsLegalMoment, AreLegal, answered, silent, outcome_after}
+use Rattle.eid_apdu.specs.Command.{PlainCommand}
+use Rattle.eid_copro.specs.Told.{Source, AnswersFrom}
+use Rattle.eid_copro.specs.declared.ask.Ask.{Ask}
+use Rattle.eid_copro.specs.declared.ask.Question.{Question}
+use Rattle.eid_copro.specs.declared.ask.Answer.{Answer}
+use Rattle.eid_sm.specs.Keys.{Keys, ChannelState, next_counter}
+use Rattle.eid_sm.specs.Parts.{AreBytes}
+use Rattle.eid_sm.specs.Commands.{IsProtected, LacksObjects, sent_command}
+use Rattle.eid_sm.proofs.ProtectedFacts.{not_lacking, protected_has_objects}
+use Rattle.eid_sm.proofs.OneProtected.{one_protected}
+use Rattle.eid_model.specs.Moments.{Event, PoweredOn, PoweredOff, Received, PlainMoment, PlainLine, line_of, on, live, AreSteady, is_steady, script, asked}
+use Rattle.eid_model.specs.Runs.{answers_of}
+use Rattle.eid_model.specs.Sessions.{channel}
+use Rattle.eid_model.specs.Rules.{Heard, NoCommand, MissingObjects, WrongObjects, Command}
+use Rattle.eid_model.specs.Answers.{outcome, question}
+use Rattle.eid_model.specs.Legal.{IsHeardPlain, IsHeardProtected, IsHeard, AreAsked, IsAnswered, IsHandled, IsLegalFor, IsLegalMoment, AreLegal, answered, silent, situation_after}
+use Rattle.eid_model.proofs.KeyBytes.{channel_bytes}
 
 -- lists that are equal with one more item are equal without it
 one_more : {A : Type 0} (xs ys : List A) (x y : A) → xs ++ x ∷ [] ≡ ys ++ y ∷ [] → (xs ≡ ys) × (x ≡ y)
@@ -22,51 +36,117 @@ one_more (a ∷ xs) (b ∷ ys) x y e =
     ((cc), same.1)
 
 -- bytes say one thing
-same_heard : (bytes : List ℕ) (one other : Heard) → IsHeard bytes one → IsHeard bytes other → one ≡ other
-same_heard bytes NoCommand NoCommand p q = refl
-same_heard bytes NoCommand (Command d) p q = absurd (p d q.0 q.1)
-same_heard bytes (Command c) NoCommand p q = absurd (q c p.0 p.1)
-same_heard bytes (Command c) (Command d) p q = ap Command (spells_one bytes c d p.0 q.0)
+same_plain : (bytes : List ℕ) (one other : Heard) → IsHeardPlain bytes one → IsHeardPlain bytes other → one ≡ other
+same_plain bytes NoCommand NoCommand p q = refl
+same_plain bytes NoCommand MissingObjects p q = absurd q
+same_plain bytes NoCommand WrongObjects p q = absurd q
+same_plain bytes NoCommand (Command d) p q = absurd (p d q.0 q.1)
+same_plain bytes MissingObjects other p q = absurd p
+same_plain bytes WrongObjects other p q = absurd p
+same_plain bytes (Command c) NoCommand p q = absurd (q c p.0 p.1)
+same_plain bytes (Command c) MissingObjects p q = absurd q
+same_plain bytes (Command c) WrongObjects p q = absurd q
+same_plain bytes (Command c) (Command d) p q = ap Command (spells_one bytes c d p.0 q.0)
 
-same_answered : (opening : FullRecord) (before : List PlainMoment) (bytes : List ℕ) (m n : PlainMoment) → IsAnswered opening before bytes m → IsAnswered opening before bytes n → m ≡ n
-same_answered opening before bytes m n p q =
-    let heard = same_heard bytes p.heard q.heard p.hears q.hears in
-    p.moment ∙ ap (λ (h : Heard). answered bytes h (outcome_after opening before h)) heard ∙ sym q.moment
+-- a protected command has the objects
+not_missing : (keys : Keys) (n : ℕ) (bytes : List ℕ) (c : PlainCommand) → IsProtected keys n bytes c → LacksObjects bytes → ⊥
+not_missing keys n bytes c is lacks = not_lacking bytes (sent_command keys n is.form c is.sent_ne) (protected_has_objects keys n bytes c is) lacks
 
-same_handled : (power : Bool) (opening : FullRecord) (before : List PlainMoment) (bytes : List ℕ) (m n : PlainMoment) → on before ≡ power → IsHandled opening before bytes m → IsHandled opening before bytes n → m ≡ n
-same_handled true opening before bytes m n power p q = same_answered opening before bytes m n (p.powered power) (q.powered power)
-same_handled false opening before bytes m n power p q = p.unpowered power ∙ sym (q.unpowered power)
+same_protected : (ch : ChannelState) (bytes : List ℕ) (one other : Heard) → AreBytes ch.keys.enc → IsHeardProtected ch bytes one → IsHeardProtected ch bytes other → one ≡ other
+same_protected ch bytes NoCommand other k p q = absurd p
+same_protected ch bytes MissingObjects NoCommand k p q = absurd q
+same_protected ch bytes MissingObjects MissingObjects k p q = refl
+same_protected ch bytes MissingObjects WrongObjects k p q = absurd (q.0 p)
+same_protected ch bytes MissingObjects (Command d) k p q = absurd (not_missing ch.keys (next_counter ch.counter) bytes d q p)
+same_protected ch bytes WrongObjects NoCommand k p q = absurd q
+same_protected ch bytes WrongObjects MissingObjects k p q = absurd (p.0 q)
+same_protected ch bytes WrongObjects WrongObjects k p q = refl
+same_protected ch bytes WrongObjects (Command d) k p q = absurd (p.1 d q)
+same_protected ch bytes (Command c) NoCommand k p q = absurd q
+same_protected ch bytes (Command c) MissingObjects k p q = absurd (not_missing ch.keys (next_counter ch.counter) bytes c p q)
+same_protected ch bytes (Command c) WrongObjects k p q = absurd (q.1 c p)
+same_protected ch bytes (Command c) (Command d) k p q = ap Command (one_protected ch.keys (next_counter ch.counter) bytes c d k p q)
+
+same_heard : (session : List PlainMoment) (o : Option ChannelState) (bytes : List ℕ) (one other : Heard) → channel session ≡ o → IsHeard o bytes one → IsHeard o bytes other → one ≡ other
+same_heard session None bytes one other is p q = same_plain bytes one other p q
+same_heard session (Some ch) bytes one other is p q = same_protected ch bytes one other (channel_bytes session ch is) p q
+
+-- the questions that are put are the same, where they are answered from one source
+same_first : (x y : Ask) → x.question ≡ y.question → x.answer ≡ y.answer → x ≡ y
+same_first x y p q = ap (λ (k : Question). record { question = k; answer = x.answer }) p ∙ ap (λ (k : Answer). record { question = y.question; answer = k }) q
+
+same_question : (o : Option Question) (x y : Question) → o ≡ Some x → o ≡ Some y → x ≡ y
+same_question o x y p q = cc
+
+same_asks : (source : Source) (next : List Answer → Option Question) (log : List Ask) (given : List Answer) (a b : List Ask) → AreAsked next given a → AreAsked next given b → AnswersFrom source (log ++ a) → AnswersFrom source (log ++ b) → a ≡ b
+same_asks source next log given [] [] p q s t = refl
+same_asks source next log given [] (y ∷ b) p q s t = absurd (none (next given) y.question p q.0) where
+  none : (o : Option Question) (x : Question) → o ≡ None → o ≡ Some x → ⊥
+  none o x p q = cc
+same_asks source next log given (x ∷ a) [] p q s t = absurd (none (next given) x.question q p.0) where
+  none : (o : Option Question) (x : Question) → o ≡ None → o ≡ Some x → ⊥
+  none o x p q = cc
+same_asks source next log given (x ∷ a) (y ∷ b) p q s t =
+    let questions : x.question ≡ y.question = same_question (next given) x.question y.question p.0 q.0 in
+    let answers : x.answer ≡ y.answer = s.each log a x refl ∙ ap (source log) questions ∙ sym (t.each log b y refl) in
+    let first : x ≡ y = same_first x y questions answers in
+    let later_a : AnswersFrom source ((log ++ x ∷ []) ++ a) = subst (AnswersFrom source) (sym (append_assoc log (x ∷ []) a)) s in
+    let later_b : AnswersFrom source ((log ++ x ∷ []) ++ b) = subst (AnswersFrom source) (ap (λ (f : Ask). log ++ f ∷ b) (sym first) ∙ sym (append_assoc log (x ∷ []) b)) t in
+    let asked_b : AreAsked next (given ++ x.answer ∷ []) b = subst (λ (f : Ask). AreAsked next (given ++ f.answer ∷ []) b) (sym first) q.2 in
+    let later : a ≡ b = same_asks source next (log ++ x ∷ []) (given ++ x.answer ∷ []) a b p.2 asked_b later_a later_b in
+    ap (λ (f : Ask). f ∷ a) first ∙ ap (λ (l : List Ask). y ∷ l) later
+
+same_answered : (source : Source) (opening : FullRecord) (before : List PlainMoment) (bytes : List ℕ) (m n : PlainMoment) → AnswersFrom source (asked (m ∷ before)) → AnswersFrom source (asked (n ∷ before)) → IsAnswered opening before bytes m → IsAnswered opening before bytes n → m ≡ n
+same_answered source opening before bytes m n s t p q =
+    let ch = channel (live before) in
+    let heard : p.heard ≡ q.heard = same_heard (live before) ch bytes p.heard q.heard refl p.hears q.hears in
+    let next : Heard → List Answer → Option Question = λ (h : Heard) (given : List Answer). question (situation_after opening before h given) in
+    let q_asked : AreAsked (next p.heard) [] n.asks = subst (λ (h : Heard). AreAsked (next h) [] n.asks) (sym heard) q.asked in
+    let asks : m.asks ≡ n.asks = same_asks source (next p.heard) (asked before) [] m.asks n.asks p.asked q_asked s t in
+    let made : Heard → List Ask → PlainMoment = λ (h : Heard) (a : List Ask). answered ch bytes h a (outcome (situation_after opening before h (answers_of a))) in
+    p.moment ∙ ap (λ (h : Heard). made h m.asks) heard ∙ ap (λ (a : List Ask). made q.heard a) asks ∙ sym q.moment
+
+same_handled : (source : Source) (power : Bool) (opening : FullRecord) (before : List PlainMoment) (bytes : List ℕ) (m n : PlainMoment) → AnswersFrom source (asked (m ∷ before)) → AnswersFrom source (asked (n ∷ before)) → on before ≡ power → IsHandled opening before bytes m → IsHandled opening before bytes n → m ≡ n
+same_handled source true opening before bytes m n s t power p q = same_answered source opening before bytes m n s t (p.powered power) (q.powered power)
+same_handled source false opening before bytes m n s t power p q = p.unpowered power ∙ sym (q.unpowered power)
 
 -- what came, and the moments before, determine the moment
-same_for : (e f : Event) (opening : FullRecord) (before : List PlainMoment) (m n : PlainMoment) → IsLegalFor e opening before m → IsLegalFor f opening before n → is_steady e ≡ true → is_steady f ≡ true → line_of e ≡ line_of f → m ≡ n
-same_for (PoweredOn None) f opening before m n p q e_steady f_steady lines = absurd (cc)
-same_for (PoweredOn (Some x)) (PoweredOn None) opening before m n p q e_steady f_steady lines = absurd (cc)
-same_for (PoweredOn (Some x)) (PoweredOn (Some y)) opening before m n p q e_steady f_steady lines =
+same_for : (source : Source) (e f : Event) (opening : FullRecord) (before : List PlainMoment) (m n : PlainMoment) → AnswersFrom source (asked (m ∷ before)) → AnswersFrom source (asked (n ∷ before)) → IsLegalFor e opening before m → IsLegalFor f opening before n → is_steady e ≡ true → is_steady f ≡ true → line_of e ≡ line_of f → m ≡ n
+same_for source (PoweredOn None) f opening before m n from_m from_n p q e_steady f_steady lines = absurd (cc)
+same_for source (PoweredOn (Some x)) (PoweredOn None) opening before m n from_m from_n p q e_steady f_steady lines = absurd (cc)
+same_for source (PoweredOn (Some x)) (PoweredOn (Some y)) opening before m n from_m from_n p q e_steady f_steady lines =
     let number : x ≡ y = p.0 ∙ sym q.0 in
     p.1 ∙ ap (λ (k : ℕ). silent (PoweredOn (Some k))) number ∙ sym q.1
-same_for (PoweredOn (Some x)) PoweredOff opening before m n p q e_steady f_steady lines = absurd (cc)
-same_for (PoweredOn (Some x)) (Received bytes) opening before m n p q e_steady f_steady lines = absurd (cc)
-same_for PoweredOff (PoweredOn found) opening before m n p q e_steady f_steady lines = absurd (cc)
-same_for PoweredOff PoweredOff opening before m n p q e_steady f_steady lines = p ∙ sym q
-same_for PoweredOff (Received bytes) opening before m n p q e_steady f_steady lines = absurd (cc)
-same_for (Received bytes) (PoweredOn found) opening before m n p q e_steady f_steady lines = absurd (cc)
-same_for (Received bytes) PoweredOff opening before m n p q e_steady f_steady lines = absurd (cc)
-same_for (Received bytes) (Received others) opening before m n p q e_steady f_steady lines =
+same_for source (PoweredOn (Some x)) PoweredOff opening before m n from_m from_n p q e_steady f_steady lines = absurd (cc)
+same_for source (PoweredOn (Some x)) (Received bytes) opening before m n from_m from_n p q e_steady f_steady lines = absurd (cc)
+same_for source PoweredOff (PoweredOn found) opening before m n from_m from_n p q e_steady f_steady lines = absurd (cc)
+same_for source PoweredOff PoweredOff opening before m n from_m from_n p q e_steady f_steady lines = p ∙ sym q
+same_for source PoweredOff (Received bytes) opening before m n from_m from_n p q e_steady f_steady lines = absurd (cc)
+same_for source (Received bytes) (PoweredOn found) opening before m n from_m from_n p q e_steady f_steady lines = absurd (cc)
+same_for source (Received bytes) PoweredOff opening before m n from_m from_n p q e_steady f_steady lines = absurd (cc)
+same_for source (Received bytes) (Received others) opening before m n from_m from_n p q e_steady f_steady lines =
     let same : others ≡ bytes = cc in
-    same_handled (on before) opening before bytes m n refl p (rw same at q)
+    same_handled source (on before) opening before bytes m n from_m from_n refl p (rw same at q)
+
+-- a front of what a source answered
+answers_front : (source : Source) (a b : List Ask) → AnswersFrom source (a ++ b) → AnswersFrom source a
+answers_front source a b from = record {
+  each = λ before later ask is. from.each before (later ++ b) ask (ap (λ (l : List Ask). l ++ b) is ∙ append_assoc before (ask ∷ later) b);
+}
 
 -- one journal for what came
-pub one_journal : (opening : FullRecord) (one other : List PlainMoment) → AreLegal opening one → AreLegal opening other → AreSteady one → AreSteady other → script one ≡ script other → one ≡ other
-one_journal opening [] [] p q s t lines = refl
-one_journal opening [] (n ∷ b) p q s t lines =
+pub one_journal : (source : Source) (opening : FullRecord) (one other : List PlainMoment) → AreLegal opening one → AreLegal opening other → AreSteady one → AreSteady other → script one ≡ script other → AnswersFrom source (asked one) → AnswersFrom source (asked other) → one ≡ other
+one_journal source opening [] [] p q s t lines f g = refl
+one_journal source opening [] (n ∷ b) p q s t lines f g =
     let lens : length {A = PlainLine} [] ≡ length (script b ++ line_of n.input ∷ []) = ap length lines in
     absurd (omega (arith, lens, length-append (script b) (line_of n.input ∷ [])))
-one_journal opening (m ∷ a) [] p q s t lines =
+one_journal source opening (m ∷ a) [] p q s t lines f g =
     let lens : length (script a ++ line_of m.input ∷ []) ≡ length {A = PlainLine} [] = ap length lines in
     absurd (omega (arith, lens, length-append (script a) (line_of m.input ∷ [])))
-one_journal opening (m ∷ a) (n ∷ b) p q s t lines =
+one_journal source opening (m ∷ a) (n ∷ b) p q s t lines f g =
     let parts = one_more (script a) (script b) (line_of m.input) (line_of n.input) lines in
-    let before : b ≡ a = sym (one_journal opening a b p.1 q.1 s.0 t.0 parts.0) in
+    let before : b ≡ a = sym (one_journal source opening a b p.1 q.1 s.0 t.0 parts.0 (answers_front source (asked a) m.asks f) (answers_front source (asked b) n.asks g)) in
     let legal : IsLegalMoment opening a n = subst (λ (moments : List PlainMoment). IsLegalMoment opening moments n) before q.0 in
-    let same : m ≡ n = same_for m.input n.input opening a m n p.0 legal s.1 t.1 parts.1 in
-    cc
+    let from_n : AnswersFrom source (asked (n ∷ a)) = subst (λ (moments : List PlainMoment). AnswersFrom source (asked (n ∷ moments))) before g in
+    let same : m ≡ n = same_for source m.input n.input opening a m n f from_n p.0 legal s.1 t.1 parts.1 in
+    ap (λ (x : PlainMoment). x ∷ a) same ∙ ap (λ (l : List PlainMoment). n ∷ l) (sym before)

@@ -1,16 +1,28 @@
 -- How a command is answered (ISO/IEC 7816-4, BSI TR-03110-3).
-use Rattle.std.specs.Prelude.{ℕ, ◌==◌, ◌&&◌, ◌||◌, not, nat_lt, List, [], ◌++◌, length, take, drop, Option, Some, None, unwrap_or, if◌then◌else◌}
+use Rattle.std.specs.Prelude.{ℕ, ◌==◌, ◌&&◌, ◌||◌, not, nat_lt, List, [], ◌∷◌, ◌++◌, length, take, drop, Option, Some, None, is_none, unwrap_or, if◌then◌else◌}
 use Rattle.eid_apdu.specs.Command.{PlainCommand}
 use Rattle.eid_apdu.specs.Answer.{PlainReply}
-use Rattle.eid_record.specs.Plain.{FullRecord}
+use Rattle.eid_tlv.specs.Objects.{object}
+use Rattle.eid_copro.specs.declared.ask.Question.{Question}
+use Rattle.eid_copro.specs.declared.ask.Question.TheVariants as questions
+use Rattle.eid_copro.specs.declared.ask.Answer.{Answer}
+use Rattle.eid_copro.specs.declared.ask.Answer.TheVariants as answers
+use Rattle.eid_record.specs.Plain.{FullRecord, PlainRecord, PlainTrustPoint}
+use Rattle.eid_password.specs.Passwords.{digits_of}
+use Rattle.eid_pace.specs.Keys.{encrypted_nonce, token}
 use Rattle.eid_model.specs.declared.kind.Kind.{Kind}
-use Rattle.eid_model.specs.declared.kind.Kind.TheVariants.{SelectApplication, SelectMasterFile, SelectFile, ReadBinary}
+use Rattle.eid_model.specs.declared.kind.Kind.TheVariants.{ReadBinary, EncryptedNonce, MapNonce, PerformKeyAgreement, MutualAuthentication}
+use Rattle.eid_model.specs.Bodies.{data_in, authentication_data}
 use Rattle.eid_model.specs.Kinds.{kind_named}
-use Rattle.eid_model.specs.Sessions.{State, advanced}
-use Rattle.eid_model.specs.Rules.{Heard, NoCommand, Command, Situation, RuleRow, hearing_rules, naming_rules, request_rules, kind_rules, first_failed, file_of, file_meant, offset_meant}
+use Rattle.eid_model.specs.Runs.{Phase, Chose, SentNonce, HasBase, HasSecret}
+use Rattle.eid_model.specs.Sessions.{State, advanced, ended_run}
+use Rattle.eid_model.specs.Rules.{Heard, Command, Situation, RuleRow, hearing_rules, naming_rules, request_rules, kind_rules, answer_rules, proof_rules, first_failed, file_of, file_meant, offset_meant}
 
 abbrev pub status_alone : ℕ → PlainReply
 status_alone status = record { content = []; status = status }
+
+abbrev pub data_alone : List ℕ → PlainReply
+data_alone content = record { content = content; status = 0x9000 }
 
 -- what READ gives of the bytes from the offset on: at most ne of them. The status tells that fewer are
 -- left, where ne was not the greatest of its form.
@@ -20,14 +32,41 @@ read_reply left ne = record {
   status = if nat_lt (length left) ne && not (ne == 256 || ne == 65536) then 0x6282 else 0x9000;
 }
 
+-- the encrypted nonce in 80
+abbrev pub nonce_reply : PlainRecord → Phase → List Answer → PlainReply
+nonce_reply kept (Chose choice) (answers.Nonce nonce ∷ []) =
+    data_alone (authentication_data 0x80 (encrypted_nonce (digits_of kept choice.password) nonce))
+nonce_reply kept phase answers = status_alone 0x9000
+
+-- the public point of the pair that was drawn, under this tag
+abbrev pub point_reply : ℕ → List Answer → PlainReply
+point_reply tag (answers.Pair secret public ∷ later) = data_alone (authentication_data tag public)
+point_reply tag answers = status_alone 0x9000
+
+-- 88 with the name of the previous trust point, where there is one
+abbrev pub previous_name : Option PlainTrustPoint → List ℕ
+previous_name None = []
+previous_name (Some point) = object 0x88 point.name
+
+-- the chip's token in 86, and in 87 and 88 the names of the trust points
+abbrev pub token_reply : PlainRecord → Phase → PlainReply
+token_reply kept (HasSecret agreed) =
+    data_alone (object 0x7C (object 0x86 (token agreed.shared agreed.terminal_point) ++ object 0x87 kept.current.name ++ previous_name kept.previous))
+token_reply kept phase = status_alone 0x9000
+
 -- the answer to a command that is carried out
+abbrev pub success_of : Kind → Situation → PlainReply
+success_of ReadBinary s =
+    read_reply (drop (offset_meant s.command) (unwrap_or (file_of s.kept (file_meant s)) [])) s.command.ne
+success_of EncryptedNonce s = nonce_reply s.kept.fields s.state.phase s.answers
+success_of MapNonce s = point_reply 0x82 s.answers
+success_of PerformKeyAgreement s = point_reply 0x84 s.answers
+success_of MutualAuthentication s = token_reply s.kept.fields s.state.phase
+success_of kind s = status_alone 0x9000
+
 abbrev pub success : Option Kind → Situation → PlainReply
 success None s = status_alone 0x9000
-success (Some SelectApplication) s = status_alone 0x9000
-success (Some SelectMasterFile) s = status_alone 0x9000
-success (Some SelectFile) s = status_alone 0x9000
-success (Some ReadBinary) s =
-    read_reply (drop (offset_meant s.command) (unwrap_or (file_of s.kept (file_meant s)) [])) s.command.ne
+success (Some kind) s = success_of kind s
 
 -- The number of the first failed rule, or 0, and the answer.
 pub record Outcome : Type 0 where
@@ -40,25 +79,62 @@ outcome_by (Some row) s = record { rule = row.number; reply = status_alone (row.
 
 -- the command of what was heard, where there is one
 abbrev pub command_of : Heard → PlainCommand
-command_of NoCommand = record { cla = 0; ins = 0; p1 = 0; p2 = 0; body = []; ne = 0 }
 command_of (Command c) = c
+command_of heard = record { cla = 0; ins = 0; p1 = 0; p2 = 0; body = []; ne = 0 }
 
 abbrev pub kind_heard : State → Heard → Option Kind
-kind_heard state NoCommand = None
 kind_heard state (Command c) = kind_named state.next c
+kind_heard state heard = None
 
-abbrev pub situation : FullRecord → State → Heard → Situation
-situation kept state heard =
-    record { heard = heard; command = command_of heard; kind = kind_heard state heard; kept = kept; state = state }
+abbrev pub situation : FullRecord → State → Heard → List Answer → Situation
+situation kept state heard answers =
+    record { heard = heard; command = command_of heard; kind = kind_heard state heard; kept = kept; state = state; answers = answers }
 
--- the rules in order
-abbrev pub rules : List RuleRow
-rules = hearing_rules ++ naming_rules ++ request_rules ++ kind_rules
+-- ---- questions
+
+-- a nonce is drawn
+abbrev pub nonce_question : Phase → List Answer → Option Question
+nonce_question (Chose choice) [] = Some questions.Nonce
+nonce_question phase answers = None
+
+-- a pair over the generator is drawn, and the nonce is mapped with it
+abbrev pub map_question : List ℕ → Phase → List Answer → Option Question
+map_question peer (SentNonce sent) [] = Some (questions.Pair None)
+map_question peer (SentNonce sent) (answers.Pair secret public ∷ []) = Some (questions.Map sent.nonce secret peer)
+map_question peer phase answers = None
+
+-- a pair over the mapped base is drawn, and a secret is agreed with it
+abbrev pub agree_question : List ℕ → Phase → List Answer → Option Question
+agree_question peer (HasBase mapped) [] = Some (questions.Pair (Some mapped.base))
+agree_question peer (HasBase mapped) (answers.Pair secret public ∷ []) = Some (questions.Agree secret peer)
+agree_question peer phase answers = None
+
+-- the question of a kind that follows these answers
+abbrev pub question_of : Option Kind → Situation → Option Question
+question_of (Some EncryptedNonce) s = nonce_question s.state.phase s.answers
+question_of (Some MapNonce) s = map_question (data_in s.command.body) s.state.phase s.answers
+question_of (Some PerformKeyAgreement) s = agree_question (data_in s.command.body) s.state.phase s.answers
+question_of kind s = None
+
+-- the rules before the answers
+abbrev pub rules_before : List RuleRow
+rules_before = hearing_rules ++ naming_rules ++ request_rules ++ kind_rules
+
+-- the next question, by these rules and those over the answers so far: none where one of them fails
+abbrev pub question_by : List RuleRow → Situation → Option Question
+question_by before s = if is_none (first_failed (before ++ answer_rules) s) then question_of s.kind s else None
+
+unfoldable pub question : Situation → Option Question
+question s = question_by rules_before s
+
+-- the outcome, by these rules and those over all answers
+abbrev pub outcome_of : List RuleRow → Situation → Outcome
+outcome_of before s = outcome_by (first_failed (before ++ answer_rules ++ proof_rules) s) s
 
 unfoldable pub outcome : Situation → Outcome
-outcome s = outcome_by (first_failed rules s) s
+outcome s = outcome_of rules_before s
 
--- the state after a command that was answered by this rule
-abbrev pub state_answered : ℕ → Option Kind → PlainCommand → State → State
-state_answered rule None c old = old
-state_answered rule (Some kind) c old = if rule == 0 then advanced kind c old else old
+-- the state after a command that was answered by this rule, with these answers of the coprocessor
+abbrev pub state_answered : ℕ → Option Kind → PlainCommand → List Answer → State → State
+state_answered rule None c answers old = ended_run old
+state_answered rule (Some kind) c answers old = if rule == 0 then advanced kind c answers old else ended_run old

@@ -1,10 +1,10 @@
 -- The command kinds: class, instruction and parameters of each (ISO/IEC 7816-4, BSI TR-03110-3), and
 -- the files that commands name (BSI TR-03110-4).
-use Rattle.std.specs.Prelude.{ℕ, ◌+◌, ◌*◌, ◌-◌, Bool, true, ◌==◌, ◌&&◌, nat_lt, nat_le, List, [], ◌∷◌, Option, Some, None, option_map, if◌then◌else◌, find}
+use Rattle.std.specs.Prelude.{ℕ, ◌+◌, ◌*◌, ◌-◌, Bool, true, false, ◌==◌, ◌&&◌, nat_lt, nat_le, List, [], ◌∷◌, Option, Some, None, option_map, if◌then◌else◌, find}
 use Rattle.std.specs.List.{list_any}
 use Rattle.eid_apdu.specs.Command.{PlainCommand}
 use Rattle.eid_model.specs.declared.kind.Kind.{Kind}
-use Rattle.eid_model.specs.declared.kind.Kind.TheVariants.{SelectApplication, SelectMasterFile, SelectFile, ReadBinary}
+use Rattle.eid_model.specs.declared.kind.Kind.TheVariants.{SelectApplication, SelectMasterFile, SelectFile, ReadBinary, SelectPace, EncryptedNonce, MapNonce, PerformKeyAgreement, MutualAuthentication, NoStep}
 
 -- the kinds by number, in the order of the table
 abbrev pub number_of : Kind → ℕ
@@ -12,6 +12,12 @@ number_of SelectApplication = 0
 number_of SelectMasterFile = 1
 number_of SelectFile = 2
 number_of ReadBinary = 3
+number_of SelectPace = 4
+number_of EncryptedNonce = 5
+number_of MapNonce = 6
+number_of PerformKeyAgreement = 7
+number_of MutualAuthentication = 8
+number_of NoStep = 9
 
 abbrev pub same_kind : Kind → Kind → Bool
 same_kind a b = number_of a == number_of b
@@ -36,12 +42,24 @@ pub record KindRow : Type 0 where
 abbrev pub always : Option Kind → Bool
 always next = true
 
+-- a step is of its kind where the run has come to it
+abbrev pub in_turn : Kind → Option Kind → Bool
+in_turn kind None = false
+in_turn kind (Some next) = same_kind kind next
+
 abbrev pub kinds : List KindRow
 kinds =
     record { kind = SelectApplication; classes = 0x00 ∷ []; instruction = 0xA4; parameters = λ p. p == 0x040C; comes = always } ∷
     record { kind = SelectMasterFile; classes = 0x00 ∷ []; instruction = 0xA4; parameters = λ p. p == 0x000C; comes = always } ∷
     record { kind = SelectFile; classes = 0x00 ∷ []; instruction = 0xA4; parameters = λ p. p == 0x020C; comes = always } ∷
-    record { kind = ReadBinary; classes = 0x00 ∷ []; instruction = 0xB0; parameters = λ p. nat_lt p 0xA000; comes = always } ∷ []
+    record { kind = ReadBinary; classes = 0x00 ∷ []; instruction = 0xB0; parameters = λ p. nat_lt p 0xA000; comes = always } ∷
+    record { kind = SelectPace; classes = 0x00 ∷ []; instruction = 0x22; parameters = λ p. p == 0xC1A4; comes = always } ∷
+    record { kind = EncryptedNonce; classes = 0x10 ∷ []; instruction = 0x86; parameters = λ p. p == 0; comes = in_turn EncryptedNonce } ∷
+    record { kind = MapNonce; classes = 0x10 ∷ []; instruction = 0x86; parameters = λ p. p == 0; comes = in_turn MapNonce } ∷
+    record { kind = PerformKeyAgreement; classes = 0x10 ∷ []; instruction = 0x86; parameters = λ p. p == 0; comes = in_turn PerformKeyAgreement } ∷
+    record { kind = MutualAuthentication; classes = 0x00 ∷ []; instruction = 0x86; parameters = λ p. p == 0; comes = in_turn MutualAuthentication } ∷
+    -- a GENERAL AUTHENTICATE that the run has not come to
+    record { kind = NoStep; classes = 0x00 ∷ 0x10 ∷ []; instruction = 0x86; parameters = λ p. p == 0; comes = always } ∷ []
 
 -- the row has the command's class and instruction
 abbrev pub has_instruction : PlainCommand → KindRow → Bool
@@ -54,6 +72,26 @@ has_parameters c row = has_instruction c row && row.parameters (p1p2 c)
 -- the kind of a command, where this step comes next in the run
 abbrev pub kind_named : Option Kind → PlainCommand → Option Kind
 kind_named next c = option_map (λ row. row.kind) (find (λ row. has_parameters c row && row.comes next) kinds)
+
+-- the step that comes behind a command of this kind, in its run
+abbrev pub step_after : Kind → Option Kind
+step_after SelectPace = Some EncryptedNonce
+step_after EncryptedNonce = Some MapNonce
+step_after MapNonce = Some PerformKeyAgreement
+step_after PerformKeyAgreement = Some MutualAuthentication
+step_after kind = None
+
+-- a command of this kind begins a run, or goes on in it
+abbrev pub begins_run : Kind → Bool
+begins_run SelectPace = true
+begins_run kind = false
+
+abbrev pub goes_on_in_run : Kind → Bool
+goes_on_in_run EncryptedNonce = true
+goes_on_in_run MapNonce = true
+goes_on_in_run PerformKeyAgreement = true
+goes_on_in_run MutualAuthentication = true
+goes_on_in_run kind = false
 
 -- Files by number: EF.CardAccess is 0, EF.CardSecurity is 1, data group n is n + 1.
 abbrev pub card_access : ℕ

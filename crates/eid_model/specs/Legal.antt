@@ -1,21 +1,43 @@
 -- Legal journals: each moment is what the definitions make of what came and of the moments before it.
-use Rattle.std.specs.Prelude.{◌≡◌, ℕ, ◌≤◌, true, false, List, [], ◌∷◌, length, Some, None, IfSome}
+use Rattle.std.specs.Prelude.{◌≡◌, ℕ, ◌≤◌, ◌==◌, ◌||◌, true, false, List, [], ◌∷◌, ◌++◌, length, Option, Some, None, IfSome, if◌then◌else◌}
 use Rattle.eid_apdu.specs.Command.{PlainCommand, Spells}
-use Rattle.eid_apdu.specs.Answer.{spelled}
+use Rattle.eid_apdu.specs.Answer.{PlainReply, spelled}
+use Rattle.eid_copro.specs.Asks.{fits}
+use Rattle.eid_copro.specs.declared.ask.Ask.{Ask}
+use Rattle.eid_copro.specs.declared.ask.Question.{Question}
+use Rattle.eid_copro.specs.declared.ask.Answer.{Answer}
 use Rattle.eid_record.specs.Plain.{FullRecord}
+use Rattle.eid_sm.specs.Keys.{ChannelState, next_counter}
+use Rattle.eid_sm.specs.Commands.{IsProtected, LacksObjects}
+use Rattle.eid_sm.specs.Replies.{sealed}
 use Rattle.eid_model.specs.Moments.{Event, PoweredOn, PoweredOff, Received, PlainMoment, on, live}
-use Rattle.eid_model.specs.Sessions.{state_of}
-use Rattle.eid_model.specs.Rules.{Heard, NoCommand, Command, plain_of}
-use Rattle.eid_model.specs.Answers.{Outcome, outcome, situation}
+use Rattle.eid_model.specs.Runs.{answers_of}
+use Rattle.eid_model.specs.Sessions.{state_of, channel}
+use Rattle.eid_model.specs.Rules.{Heard, NoCommand, MissingObjects, WrongObjects, Command, plain_of, Situation}
+use Rattle.eid_model.specs.Answers.{Outcome, outcome, situation, question}
 
 -- the longest body of one command
 abbrev pub MAX_BODY : ℕ
 MAX_BODY = 2200
 
--- the bytes say this: a command with a body that is not too long, or none such
-abbrev pub IsHeard : List ℕ → Heard → Type 0
-IsHeard bytes NoCommand = (c : PlainCommand) → Spells bytes c → length c.body ≤ MAX_BODY → ⊥
-IsHeard bytes (Command c) = Spells bytes c × (length c.body ≤ MAX_BODY)
+-- without a channel the bytes say this: a command with a body that is not too long, or none such
+abbrev pub IsHeardPlain : List ℕ → Heard → Type 0
+IsHeardPlain bytes NoCommand = (c : PlainCommand) → Spells bytes c → length c.body ≤ MAX_BODY → ⊥
+IsHeardPlain bytes (Command c) = Spells bytes c × (length c.body ≤ MAX_BODY)
+IsHeardPlain bytes heard = ⊥
+
+-- in a channel they say this: a command that is protected at the next counter, or the objects of secure messaging
+-- are missing or wrong
+abbrev pub IsHeardProtected : ChannelState → List ℕ → Heard → Type 0
+IsHeardProtected ch bytes MissingObjects = LacksObjects bytes
+IsHeardProtected ch bytes WrongObjects =
+    (LacksObjects bytes → ⊥) × ((c : PlainCommand) → IsProtected ch.keys (next_counter ch.counter) bytes c → ⊥)
+IsHeardProtected ch bytes (Command c) = IsProtected ch.keys (next_counter ch.counter) bytes c
+IsHeardProtected ch bytes NoCommand = ⊥
+
+abbrev pub IsHeard : Option ChannelState → List ℕ → Heard → Type 0
+IsHeard None bytes heard = IsHeardPlain bytes heard
+IsHeard (Some ch) bytes heard = IsHeardProtected ch bytes heard
 
 -- the record kept; no kind of this stage commits, so it is the opening one
 abbrev pub kept : FullRecord → List PlainMoment → FullRecord
@@ -23,28 +45,43 @@ kept opening moments = opening
 
 -- a moment of which nothing comes: power on or off, or bytes that reach a chip without power
 abbrev pub silent : Event → PlainMoment
-silent input = record { input = input; plain = None; finished = 0; rule = 0; answer = None; sent = None }
+silent input = record { input = input; plain = None; asks = []; finished = 0; rule = 0; answer = None; sent = None }
+
+-- each question is the next one after the answers before it, its answer has its kind, and after the last there is no
+-- further question
+abbrev pub AreAsked : (List Answer → Option Question) → List Answer → List Ask → Type 0
+AreAsked next answers [] = next answers ≡ None
+AreAsked next answers (ask ∷ later) =
+    (next answers ≡ Some ask.question) × (fits ask.question ask.answer ≡ true) × AreAsked next (answers ++ ask.answer ∷ []) later
+
+-- a reply as it is sent: in a channel protected, but by rules 2 and 3
+abbrev pub sent_in : Option ChannelState → ℕ → PlainReply → List ℕ
+sent_in None rule reply = spelled reply
+sent_in (Some ch) rule reply =
+    if rule == 2 || rule == 3 then spelled reply else sealed ch.keys (next_counter (next_counter ch.counter)) reply
 
 -- a moment that is answered
-abbrev pub answered : List ℕ → Heard → Outcome → PlainMoment
-answered bytes heard outcome = record {
+abbrev pub answered : Option ChannelState → List ℕ → Heard → List Ask → Outcome → PlainMoment
+answered ch bytes heard asks outcome = record {
   input = Received bytes;
   plain = plain_of heard;
+  asks = asks;
   finished = 0;
   rule = outcome.rule;
   answer = Some outcome.reply;
-  sent = Some (spelled outcome.reply);
+  sent = Some (sent_in ch outcome.rule outcome.reply);
 }
 
--- the outcome of what was heard, after these moments
-abbrev pub outcome_after : FullRecord → List PlainMoment → Heard → Outcome
-outcome_after opening before heard = outcome (situation (kept opening before) (state_of (live before)) heard)
+-- where what was heard is answered, after these moments and these answers
+abbrev pub situation_after : FullRecord → List PlainMoment → Heard → List Answer → Situation
+situation_after opening before heard answers = situation (kept opening before) (state_of (live before)) heard answers
 
 -- a chip with power answers what it heard
 pub record IsAnswered (opening : FullRecord) (before : List PlainMoment) (bytes : List ℕ) (m : PlainMoment) : Type 0 where
   pub heard : Heard
-  pub hears : IsHeard bytes heard
-  pub moment : m ≡ answered bytes heard (outcome_after opening before heard)
+  pub hears : IsHeard (channel (live before)) bytes heard
+  pub asked : AreAsked (λ answers. question (situation_after opening before heard answers)) [] m.asks
+  pub moment : m ≡ answered (channel (live before)) bytes heard m.asks (outcome (situation_after opening before heard (answers_of m.asks)))
 
 -- with power and without
 pub record IsHandled (opening : FullRecord) (before : List PlainMoment) (bytes : List ℕ) (m : PlainMoment) : Type 0 where

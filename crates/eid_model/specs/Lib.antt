@@ -1,5 +1,7 @@
 pub mod Kinds
 pub mod Moments
+pub mod Bodies
+pub mod Runs
 pub mod Sessions
 pub mod Rules
 pub mod Answers

@@ -3,6 +3,7 @@
 use Rattle.std.specs.Prelude.{◌≡◌, ℕ, Bool, true, false, ◌==◌, ◌&&◌, ◌||◌, not, List, [], ◌∷◌, ◌++◌, Option, is_some, if◌then◌else◌}
 use Rattle.eid_apdu.specs.Command.{PlainCommand}
 use Rattle.eid_apdu.specs.Answer.{PlainReply}
+use Rattle.eid_copro.specs.declared.ask.Ask.{Ask}
 
 -- What came from outside: power with the commit number found, or none where mounting was cut; power
 -- taken away; the bytes of a command.
@@ -11,11 +12,12 @@ pub data Event : Type 0 where
   PoweredOff : Event
   Received : List ℕ → Event
 
--- One moment: what came, the plain command, how many commits finished, the number of the first failed
--- rule or 0, the answer, and the bytes sent.
+-- One moment: what came, the plain command, the questions to the coprocessor with their answers (the first one
+-- first), how many commits finished, the number of the first failed rule or 0, the answer, and the bytes sent.
 pub record PlainMoment : Type 0 where
   pub input : Event
   pub plain : Option PlainCommand
+  pub asks : List Ask
   pub finished : ℕ
   pub rule : ℕ
   pub answer : Option PlainReply
@@ -49,6 +51,10 @@ ends_session_by rule = rule == 2 || rule == 3 || rule == 50
 abbrev pub ends_session : PlainMoment → Bool
 ends_session m = not (is_received m.input && is_some m.answer && not (ends_session_by m.rule))
 
+-- power came or went with this moment, or it was lost
+abbrev pub ends_with_power : PlainMoment → Bool
+ends_with_power m = not (is_received m.input && is_some m.answer)
+
 -- the moments of the session
 abbrev pub live : List PlainMoment → List PlainMoment
 live [] = []
@@ -69,6 +75,11 @@ line_of (Received bytes) = ApduLine bytes
 abbrev pub script : List PlainMoment → List PlainLine
 script [] = []
 script (m ∷ before) = script before ++ line_of m.input ∷ []
+
+-- the questions of all moments with their answers, the first one first
+abbrev pub asked : List PlainMoment → List Ask
+asked [] = []
+asked (m ∷ before) = asked before ++ m.asks
 
 -- a moment that lost nothing
 abbrev pub is_steady : Event → Bool

@@ -1,33 +1,45 @@
 -- The rules: a command is answered by the first one, in the order of their numbers, that concerns its
 -- kind and does not hold. The numbers and their order are this project's own; the statuses are those
 -- of ISO/IEC 7816-4.
-use Rattle.std.specs.Prelude.{ℕ, ◌+◌, ◌*◌, ◌-◌, Bool, true, false, ◌==◌, ◌&&◌, ◌||◌, not, nat_le, List, [], ◌∷◌, length, Option, Some, None, is_some, unwrap_or, slice_index_or, if◌then◌else◌}
+use Rattle.std.specs.Prelude.{ℕ, ◌+◌, ◌*◌, ◌-◌, Bool, true, false, ◌==◌, ◌&&◌, ◌||◌, not, nat_le, nat_lt, List, [], ◌∷◌, length, Option, Some, None, is_some, unwrap_or, slice_index_or, if◌then◌else◌}
 use Rattle.std.specs.List.{list_any}
 use Rattle.std.specs.Str.{bytes_eq}
 use Rattle.eid_apdu.specs.Command.{PlainCommand}
 use Rattle.eid_record.specs.Plain.{FullRecord}
 use Rattle.eid_model.specs.declared.kind.Kind.{Kind}
-use Rattle.eid_model.specs.declared.kind.Kind.TheVariants.{SelectApplication, SelectMasterFile, SelectFile, ReadBinary}
-use Rattle.eid_model.specs.Kinds.{same_kind, kinds, has_instruction, has_parameters, is_by_short, file_of_short, file_of_id, card_access, application_id}
+use Rattle.eid_model.specs.declared.kind.Kind.TheVariants.{SelectApplication, SelectMasterFile, SelectFile, ReadBinary, SelectPace, EncryptedNonce, MapNonce, PerformKeyAgreement, MutualAuthentication, NoStep}
+use Rattle.eid_model.specs.Kinds.{same_kind, kinds, has_instruction, has_parameters, is_by_short, file_of_short, file_of_id, card_access, card_security, application_id}
+use Rattle.eid_copro.specs.declared.ask.Answer.{Answer}
+use Rattle.eid_copro.specs.declared.ask.Answer.TheVariants as answers
+use Rattle.eid_pace.specs.Asking.{is_fault}
+use Rattle.eid_pace.specs.Keys.{token}
+use Rattle.eid_pace.specs.Selections.{PlainSelection}
+use Rattle.eid_pace.specs.SelectionIn.{selection_in}
+use Rattle.eid_model.specs.Bodies.{no_data, data_in, holds_value, holds_point}
+use Rattle.eid_model.specs.Runs.{Phase, HasSecret}
 use Rattle.eid_model.specs.Sessions.{State, number_of_two}
 
--- what the bytes received say: no command with a body of at most 2,200 bytes, or this one
+-- what the bytes received say: no command with a body of at most 2,200 bytes; in a channel, that the objects of
+-- secure messaging are missing, or wrong; or this command
 pub data Heard : Type 0 where
   NoCommand : Heard
+  MissingObjects : Heard
+  WrongObjects : Heard
   Command : PlainCommand → Heard
 
 abbrev pub plain_of : Heard → Option PlainCommand
-plain_of NoCommand = None
 plain_of (Command c) = Some c
+plain_of heard = None
 
--- Where a command is answered: what was heard, the command, its kind, the record kept, and the state
--- of the session.
+-- Where a command is answered: what was heard, the command, its kind, the record kept, the state of the session,
+-- and what the coprocessor has answered so far.
 pub record Situation : Type 0 where
   pub heard : Heard
   pub command : PlainCommand
   pub kind : Option Kind
   pub kept : FullRecord
   pub state : State
+  pub answers : List Answer
 
 -- A rule: its number, its status, the kinds that it concerns ([] is all), and where it holds.
 pub record RuleRow : Type 0 where
@@ -50,6 +62,12 @@ is_formed (Some SelectApplication) body = nat_le 1 (length body) && nat_le (leng
 is_formed (Some SelectMasterFile) body = length body == 0 || bytes_eq body (0x3F ∷ 0x00 ∷ [])
 is_formed (Some SelectFile) body = length body == 2
 is_formed (Some ReadBinary) body = length body == 0
+is_formed (Some SelectPace) body = is_some (selection_in body)
+is_formed (Some EncryptedNonce) body = bytes_eq body no_data
+is_formed (Some MapNonce) body = holds_point 0x81 body
+is_formed (Some PerformKeyAgreement) body = holds_point 0x83 body
+is_formed (Some MutualAuthentication) body = holds_value 0x85 8 body
+is_formed (Some NoStep) body = true
 
 -- the file that a READ means: of its short identifier, or the current one
 unfoldable pub file_meant : Situation → Option ℕ
@@ -66,25 +84,62 @@ is_named (Some SelectApplication) s = bytes_eq s.command.body application_id
 is_named (Some SelectMasterFile) s = true
 is_named (Some SelectFile) s = is_some (file_of_id (number_of_two s.command.body))
 is_named (Some ReadBinary) s = not (is_by_short s.command) || is_some (file_meant s)
+is_named (Some kind) s = true
 
 -- the file's bytes, where it is present
 abbrev pub file_of : FullRecord → Option ℕ → Option (List ℕ)
 file_of kept None = None
 file_of kept (Some file) = slice_index_or kept.files file None
 
-abbrev pub is_heard : Heard → Bool
-is_heard NoCommand = false
-is_heard (Command c) = true
+abbrev pub is_command : Heard → Bool
+is_command NoCommand = false
+is_command heard = true
+
+abbrev pub has_objects : Heard → Bool
+has_objects MissingObjects = false
+has_objects heard = true
+
+abbrev pub is_protected : Heard → Bool
+is_protected WrongObjects = false
+is_protected heard = true
 
 abbrev pub is_card_access : Option ℕ → Bool
 is_card_access None = false
 is_card_access (Some file) = file == card_access
 
+abbrev pub is_data_group : Option ℕ → Bool
+is_data_group None = false
+is_data_group (Some file) = nat_lt card_security file
+
+-- the reference names the CAN
+abbrev pub is_can : Option PlainSelection → Bool
+is_can None = false
+is_can (Some selection) = selection.reference == 2
+
+-- the answer is no point
+abbrev pub is_no_point : Answer → Bool
+is_no_point answers.NoPoint = true
+is_no_point answer = false
+
+-- the point is the one of the pair that the coprocessor drew first
+abbrev pub is_own_point : List ℕ → List Answer → Bool
+is_own_point peer (answers.Pair secret public ∷ later) = bytes_eq peer public
+is_own_point peer answers = false
+
+-- the token is the one that the secret and the chip's point give
+abbrev pub is_token : List ℕ → Phase → Bool
+is_token sent (HasSecret agreed) = bytes_eq sent (token agreed.shared agreed.chip_point)
+is_token sent phase = false
+
 -- whether the command can be heard at all
 abbrev pub hearing_rules : List RuleRow
 hearing_rules =
     -- the bytes are a command with a body of at most 2,200 bytes
-    record { number = 1; status = always 0x6700; kinds = []; holds = λ s. is_heard s.heard } ∷ []
+    record { number = 1; status = always 0x6700; kinds = []; holds = λ s. is_command s.heard } ∷
+    -- in a channel: the message has the objects of secure messaging
+    record { number = 2; status = always 0x6987; kinds = []; holds = λ s. has_objects s.heard } ∷
+    -- in a channel: the message is protected at the next counter
+    record { number = 3; status = always 0x6988; kinds = []; holds = λ s. is_protected s.heard } ∷ []
 
 -- whether it has a kind
 abbrev pub naming_rules : List RuleRow
@@ -110,18 +165,40 @@ request_rules =
 -- whether a command of its kind is carried out
 abbrev pub kind_rules : List RuleRow
 kind_rules =
+    -- the step is the run's next one
+    record { number = 9; status = always 0x6985; kinds = NoStep ∷ []; holds = λ s. false } ∷
     -- the body has the form of the kind
     record { number = 10; status = always 0x6A80; kinds = []; holds = λ s. is_formed s.kind s.command.body } ∷
+    -- the password's reference is that of the CAN
+    record { number = 11; status = always 0x6A88; kinds = SelectPace ∷ []; holds = λ s. is_can (selection_in s.command.body) } ∷
     -- by offset alone: there is a current file
     record { number = 12; status = always 0x6986; kinds = ReadBinary ∷ []; holds = λ s. is_by_short s.command || is_some s.state.current } ∷
     -- the identifier is the application's, or names a file
     record { number = 13; status = always 0x6A82; kinds = SelectApplication ∷ SelectFile ∷ ReadBinary ∷ []; holds = λ s. is_named s.kind s } ∷
-    -- the session has a successful PACE, but for EF.CardAccess. No kind of this stage can have brought one.
-    record { number = 20; status = always 0x6982; kinds = ReadBinary ∷ []; holds = λ s. is_card_access (file_meant s) } ∷
+    -- the session has a successful PACE, but for EF.CardAccess
+    record { number = 20; status = always 0x6982; kinds = ReadBinary ∷ []; holds = λ s. is_card_access (file_meant s) || is_some s.state.pace } ∷
+    -- for a data group: terminal authentication succeeded. No kind of this stage can have brought one.
+    record { number = 26; status = always 0x6982; kinds = ReadBinary ∷ []; holds = λ s. not (is_data_group (file_meant s)) } ∷
     -- the file is present
     record { number = 37; status = always 0x6A82; kinds = ReadBinary ∷ []; holds = λ s. is_some (file_of s.kept (file_meant s)) } ∷
     -- the offset is at most the file's length
     record { number = 38; status = always 0x6B00; kinds = ReadBinary ∷ []; holds = λ s. nat_le (offset_meant s.command) (length (unwrap_or (file_of s.kept (file_meant s)) [])) } ∷ []
+
+-- whether the coprocessor's answers let the command go on
+abbrev pub answer_rules : List RuleRow
+answer_rules =
+    -- no question of this command met a fault
+    record { number = 50; status = always 0x6F00; kinds = []; holds = λ s. not (list_any is_fault s.answers) } ∷
+    -- the terminal's ephemeral point differs from the chip's
+    record { number = 51; status = always 0x6300; kinds = PerformKeyAgreement ∷ []; holds = λ s. not (is_own_point (data_in s.command.body) s.answers) } ∷
+    -- no question was answered with no point
+    record { number = 52; status = always 0x6A80; kinds = MapNonce ∷ PerformKeyAgreement ∷ []; holds = λ s. not (list_any is_no_point s.answers) } ∷ []
+
+-- whether what the terminal proves is right
+abbrev pub proof_rules : List RuleRow
+proof_rules =
+    -- the token is right
+    record { number = 55; status = always 0x6300; kinds = MutualAuthentication ∷ []; holds = λ s. is_token (data_in s.command.body) s.state.phase } ∷ []
 
 -- the rule concerns the kind
 abbrev pub concerns : List Kind → Option Kind → Bool

@@ -1,6 +1,12 @@
 -- The trace: the text of a journal, moment by moment. This project's own.
-use Rattle.std.specs.Prelude.{ℕ, List, [], ◌∷◌, ◌++◌, length, ◌==◌, Option, Some, None, if◌then◌else◌, codes, decimal}
+use Rattle.std.specs.Prelude.{ℕ, List, [], ◌∷◌, ◌++◌, length, ◌==◌, Bool, Option, Some, None, if◌then◌else◌, codes, decimal}
+use Rattle.std.specs.List.{flat_map}
 use Rattle.hex.specs.Hex.{encode_lower}
+use Rattle.eid_copro.specs.declared.ask.Ask.{Ask}
+use Rattle.eid_copro.specs.declared.ask.Question.{Question}
+use Rattle.eid_copro.specs.declared.ask.Question.TheVariants as questions
+use Rattle.eid_copro.specs.declared.ask.Answer.{Answer}
+use Rattle.eid_copro.specs.declared.ask.Answer.TheVariants as answers
 use Rattle.eid_apdu.specs.Command.{PlainCommand}
 use Rattle.eid_apdu.specs.Answer.{PlainReply, spelled}
 use Rattle.eid_model.specs.Moments.{Event, PoweredOn, PoweredOff, Received, PlainMoment}
@@ -38,10 +44,49 @@ abbrev pub found_text : Option ℕ → List ℕ
 found_text None = codes "lost"
 found_text (Some n) = decimal n
 
+-- bytes in hexadecimal behind a word
+abbrev pub word_text : List ℕ → List ℕ → List ℕ
+word_text before bytes = before ++ codes " " ++ encode_lower bytes
+
+abbrev pub base_text : Option (List ℕ) → List ℕ
+base_text None = codes "pair -"
+base_text (Some base) = word_text (codes "pair") base
+
+-- what the coprocessor was asked
+unfoldable pub question_text : Question → List ℕ
+question_text questions.Nonce = codes "nonce"
+question_text questions.Challenge = codes "challenge"
+question_text (questions.Pair base) = base_text base
+question_text (questions.Map nonce secret peer) = word_text (word_text (word_text (codes "map") nonce) secret) peer
+question_text (questions.Agree secret peer) = word_text (word_text (codes "agree") secret) peer
+question_text (questions.Verify key digest signature) = word_text (word_text (word_text (codes "verify") key) digest) signature
+question_text (questions.Sign secret digest) = word_text (word_text (codes "sign") secret) digest
+
+abbrev pub verdict_text : Bool → List ℕ
+verdict_text good = if good then codes "yes" else codes "no"
+
+-- what it answered
+unfoldable pub given_text : Answer → List ℕ
+given_text (answers.Nonce nonce) = encode_lower nonce
+given_text (answers.Challenge challenge) = encode_lower challenge
+given_text (answers.Pair secret public) = word_text (encode_lower secret) public
+given_text (answers.Mapped base) = encode_lower base
+given_text (answers.Shared shared) = encode_lower shared
+given_text answers.NoPoint = codes "none"
+given_text (answers.Verdict good) = verdict_text good
+given_text (answers.Signed signature) = encode_lower signature
+given_text answers.Fault = codes "fault"
+
+abbrev pub ask_text : Ask → List ℕ
+ask_text ask = line (codes " ask ") (question_text ask.question ++ codes " = " ++ given_text ask.answer)
+
+abbrev pub asks_text : List Ask → List ℕ
+asks_text asks = flat_map ask_text asks
+
 -- what a command's moment says behind its bytes
 abbrev pub handled_text : PlainMoment → List ℕ
 handled_text m =
-    line (codes " plain ") (plain_text m.plain) ++ line (codes " finished ") (decimal m.finished) ++ line (codes " rule ") (decimal m.rule)
+    line (codes " plain ") (plain_text m.plain) ++ asks_text m.asks ++ line (codes " finished ") (decimal m.finished) ++ line (codes " rule ") (decimal m.rule)
     ++ line (codes " answer ") (answer_text m.answer) ++ line (codes " sent ") (bytes_text m.sent)
 
 -- the bytes of a command, and what its moment says

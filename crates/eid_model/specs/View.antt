@@ -20,6 +20,7 @@ abbrev pub moment : Moment → PlainMoment
 moment m = record {
   input = event m.input;
   plain = option_map plain m.plain;
+  asks = m.asks.items;
   finished = m.finished;
   rule = m.rule.0;
   answer = option_map plain_reply m.answer;

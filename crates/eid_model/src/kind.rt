@@ -1,4 +1,4 @@
-/// The kinds of commands, in the order of their table (ISO/IEC 7816-4).
+/// The kinds of commands, in the order of their table (ISO/IEC 7816-4, BSI TR-03110-3).
 #[derive(Clone, Copy, Debug, PartialEq, Eq, Hash)]
 pub enum Kind {
     /// SELECT of the eID application by its identifier.
@@ -9,4 +9,16 @@ pub enum Kind {
     SelectFile,
     /// READ BINARY, by short identifier or from the current file.
     ReadBinary,
+    /// MSE:Set AT for PACE: chooses the password.
+    SelectPace,
+    /// The first GENERAL AUTHENTICATE of PACE: the encrypted nonce.
+    EncryptedNonce,
+    /// The second: the nonce is mapped to a base.
+    MapNonce,
+    /// The third: the ephemeral points are exchanged.
+    PerformKeyAgreement,
+    /// The fourth: the tokens are exchanged.
+    MutualAuthentication,
+    /// A GENERAL AUTHENTICATE that is no step of a run.
+    NoStep,
 }

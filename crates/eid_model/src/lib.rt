@@ -7,6 +7,6 @@ mod moment;
 mod text;
 
 pub use kind::Kind;
-pub use law::law_one_journal;
+pub use law::{law_fresh, law_one_journal};
 pub use moment::{Input, MAX_BODY, Moment, Plain};
 pub use text::trace_text;

@@ -2,6 +2,7 @@
 use arrayvec::ArrayVec;
 use eid_apdu::Reply;
 use eid_base::Rule;
+use eid_copro::Ask;
 
 /// The longest body of one command, in bytes.
 pub const MAX_BODY: usize = 2200;
@@ -44,6 +45,8 @@ pub struct Moment {
     pub input: Input,
     /// The plain command, where there is one.
     pub plain: Option<Plain>,
+    /// The questions to the coprocessor with their answers, the first one first.
+    pub asks: Vec<Ask>,
     /// How many commits finished.
     pub finished: u8,
     /// The first failed rule, or 0.

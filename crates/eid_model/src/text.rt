@@ -2,12 +2,13 @@
 ghost use Rattle.std.specs.Prelude.{◌≡◌, ◌++◌, OnOk, IfOk, codes, decimal, option_map};
 ghost use Rattle.hex.specs.Hex.{encode_lower};
 ghost use Rattle.eid_apdu.specs.Answer.{plain_reply, status_bytes, spelled};
-ghost use Rattle.eid_model.specs.Trace.{line, header_text, body_text, plain_text, bytes_text, answer_text, found_text, handled_text, command_lines, text};
+ghost use Rattle.eid_model.specs.Trace.{line, header_text, body_text, plain_text, bytes_text, answer_text, found_text, word_text, base_text, question_text, verdict_text, given_text, ask_text, asks_text, handled_text, command_lines, text};
 ghost use Rattle.eid_model.specs.View as view;
 
 use crate::moment::{Input, Moment, Plain};
 use eid_apdu::Reply;
-use eid_base::{NoMemory, Status};
+use eid_base::{NoMemory, Point, Status};
+use eid_copro::{Answer, Ask, Question};
 use std::alloc::Global;
 
 /// A text that grows.
@@ -136,11 +137,129 @@ impl Text {
         self.put_hex(&status.0.to_be_bytes())
     }
 
+    /// Appends a space, and bytes in hexadecimal.
+    fn put_word(&mut self, bytes: &[u8]) -> Result<(), NoMemory>
+        ensures { OnOk result (self.new.bytes.items ≡ word_text self.old.bytes.items bytes.now) }
+    {
+        self.put(b" ")?;
+        self.put_hex(bytes)
+    }
+
+    /// Appends a word, and behind it bytes in hexadecimal.
+    fn put_one(&mut self, word: &[u8], bytes: &[u8]) -> Result<(), NoMemory>
+        ensures { OnOk result (self.new.bytes.items ≡ self.old.bytes.items ++ word_text word.now bytes.now) }
+    {
+        self.put(word)?;
+        self.put_word(bytes)
+    }
+
+    /// Appends the question for a pair, over a base or over the generator.
+    fn put_pair_question(&mut self, base: &Option<Point>) -> Result<(), NoMemory>
+        ensures { OnOk result (self.new.bytes.items ≡ self.old.bytes.items ++ base_text base.now) }
+    {
+        match base {
+            None => self.put(b"pair -"),
+            Some(base) => self.put_one(b"pair", base),
+        }
+    }
+
+    /// Appends a word, and behind it bytes in hexadecimal, twice.
+    fn put_two(&mut self, word: &[u8], first: &[u8], second: &[u8]) -> Result<(), NoMemory>
+        ensures { OnOk result (self.new.bytes.items ≡ self.old.bytes.items ++ word_text (word_text word.now first.now) second.now) }
+    {
+        self.put_one(word, first)?;
+        self.put_word(second)
+    }
+
+    /// Appends what the coprocessor was asked.
+    #[tactic(auto, unfolding(crate::specs::Trace::question_text))]
+    fn put_question(&mut self, question: &Question) -> Result<(), NoMemory>
+        ensures { OnOk result (self.new.bytes.items ≡ self.old.bytes.items ++ question_text question.now) }
+    {
+        match question {
+            Question::Nonce => self.put(b"nonce"),
+            Question::Challenge => self.put(b"challenge"),
+            Question::Pair { base } => self.put_pair_question(base),
+            Question::Map {
+                nonce,
+                secret,
+                peer,
+            } => {
+                self.put_two(b"map", nonce, secret)?;
+                self.put_word(peer)
+            }
+            Question::Agree { secret, peer } => self.put_two(b"agree", secret, peer),
+            Question::Verify {
+                key,
+                digest,
+                signature,
+            } => {
+                self.put_two(b"verify", key, digest)?;
+                self.put_word(signature)
+            }
+            Question::Sign { secret, digest } => self.put_two(b"sign", secret, digest),
+        }
+    }
+
+    /// Appends a verdict.
+    fn put_verdict(&mut self, good: bool) -> Result<(), NoMemory>
+        ensures { OnOk result (self.new.bytes.items ≡ self.old.bytes.items ++ verdict_text good) }
+    {
+        if good {
+            self.put(b"yes")
+        } else {
+            self.put(b"no")
+        }
+    }
+
+    /// Appends what the coprocessor answered.
+    #[tactic(auto, unfolding(crate::specs::Trace::given_text))]
+    fn put_given(&mut self, answer: &Answer) -> Result<(), NoMemory>
+        ensures { OnOk result (self.new.bytes.items ≡ self.old.bytes.items ++ given_text answer.now) }
+    {
+        match answer {
+            Answer::Nonce(nonce) => self.put_hex(nonce),
+            Answer::Challenge(challenge) => self.put_hex(challenge),
+            Answer::Pair { secret, public } => {
+                self.put_hex(secret)?;
+                self.put_word(public)
+            }
+            Answer::Mapped(base) => self.put_hex(base),
+            Answer::Shared(shared) => self.put_hex(shared),
+            Answer::NoPoint => self.put(b"none"),
+            Answer::Verdict(good) => self.put_verdict(*good),
+            Answer::Signed(signature) => self.put_hex(signature),
+            Answer::Fault => self.put(b"fault"),
+        }
+    }
+
+    /// Appends the line of a question with its answer.
+    fn put_ask(&mut self, ask: &Ask) -> Result<(), NoMemory>
+        ensures { OnOk result (self.new.bytes.items ≡ self.old.bytes.items ++ ask_text ask.now) }
+    {
+        self.put(b" ask ")?;
+        self.put_question(&ask.question)?;
+        self.put(b" = ")?;
+        self.put_given(&ask.answer)?;
+        self.put(b"\n")
+    }
+
+    /// Appends a line for each question with its answer.
+    fn put_asks(&mut self, asks: &[Ask]) -> Result<(), NoMemory>
+        ensures { OnOk result (self.new.bytes.items ≡ self.old.bytes.items ++ asks_text asks.now) }
+    {
+        for ask in asks {
+            self.put_ask(ask)?;
+        }
+        Ok(())
+    }
+
     /// Appends what the moment of a command says behind its bytes.
     fn put_handled(&mut self, m: &Moment) -> Result<(), NoMemory>
         ensures { OnOk result (self.new.bytes.items ≡ self.old.bytes.items ++ handled_text (view.moment m.now)) }
     {
         self.put_plain_line(&m.plain)?;
+        self.put_asks(m.asks.as_slice())?;
         self.put_number_line(b" finished ", u32::from(m.finished))?;
         self.put_number_line(b" rule ", u32::from(m.rule.0))?;
         self.put_answer_line(&m.answer)?;

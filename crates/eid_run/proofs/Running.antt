@@ -1,26 +1,27 @@
 -- What a line made, and runs with one line more.
-use Rattle.std.proofs.Common.{◌≡◌, ◌≢◌, ℕ, ◌+◌, ◌<◌, true, IsTrue, List, [], ◌∷◌, ◌++◌, length, take, drop, get_or, map, Option, Some, None, Result, Ok, Err, refl, sym, ap, ◌∙◌, subst, append_assoc, append-nil, inl, inr}
-use Rattle.std.specs.Prelude.{IsSome, is_some, slice_index}
-use Rattle.std.proofs.lemmas.List.{take_more, map-append, take-append-drop}
+use Rattle.std.proofs.Common.{◌≡◌, ◌≢◌, ℕ, ◌+◌, ◌<◌, ◌≤◌, true, IsTrue, List, [], ◌∷◌, ◌++◌, length, take, drop, get_or, map, Option, Some, None, Result, Ok, Err, refl, sym, ap, ◌∙◌, subst, append_assoc, append-nil, length-append, arith, inl, inr}
+use Rattle.std.specs.Prelude.{IsSome, OnErr, is_some, slice_index}
+use Rattle.std.proofs.lemmas.List.{take_more, map-append, take-append-drop, drop_at}
 use Rattle.eid_base.specs.Seen.{SinkSeen, Grew}
 use Rattle.eid_cells.specs.Device.{Device}
 use Rattle.eid_record.specs.Plain.{FullRecord}
 use Rattle.eid_store.specs.declared.durable.MountError.{MountError}
 use Rattle.eid_store.specs.declared.durable.MountError.TheVariants.{Cut, BadImage}
 use Rattle.eid_store.specs.Stands.{stands}
-use Rattle.eid_model.specs.Moments.{PlainMoment, is_steady}
+use Rattle.eid_copro.specs.declared.ask.Ask.{Ask}
+use Rattle.eid_model.specs.Moments.{PlainMoment, asked, is_steady}
 use Rattle.eid_model.specs.Trace.{text, trace}
 use Rattle.eid_chip.specs.declared.running.Running.{Running}
 use Rattle.eid_chip.specs.declared.chip.Chip.{Chip}
 use Rattle.eid_chip.specs.declared.chip.Handled.{Handled}
 use Rattle.eid_chip.specs.declared.chip.Handled.TheVariants.{Silent, Answered}
-use Rattle.eid_chip.specs.Fits.{Fits, Follows, IsSound, IsSoundLife, handled, found}
+use Rattle.eid_chip.specs.Fits.{Fits, Follows, IsSound, IsSoundLife, handled, found, is_silent}
 use Rattle.eid_script.specs.declared.script.Line.{Line}
 use Rattle.eid_script.specs.Scripts.{ScriptLine, ApduLine, plain_line}
 use Rattle.eid_run.specs.Runs.{Happening, Did, Planned, line_for, journal, text_of, Scene, Made, DidLine, BrokeOffLine, IsFrontOfTrace, IsRunSoFar, DidSomeLines}
 
-pub made_of : (old new : Scene) (line : ScriptLine) (e m : PlainMoment) → Follows old.chip old.device old.cells new.chip new.device new.cells e → line_for e.input ≡ line → (slice_index old.cells 0 ≡ 1 → is_steady e.input ≡ true) → m ≡ e → Made old new line (Did m)
-made_of old new line e m follows asked steady same = subst (λ (x : PlainMoment). Made old new line (Did x)) (sym same) (record { comes = follows; asked = asked; steady = steady })
+pub made_of : (old new : Scene) (log log_now : List Ask) (line : ScriptLine) (e m : PlainMoment) → Follows old.chip old.device old.cells new.chip new.device new.cells e → log_now ≡ log ++ e.asks → line_for e.input ≡ line → (slice_index old.cells 0 ≡ 1 → is_steady e.input ≡ true) → m ≡ e → Made old new log log_now line (Did m)
+made_of old new log log_now line e m follows logged carried steady same = subst (λ (x : PlainMoment). Made old new log log_now line (Did x)) (sym same) (record { comes = follows; logged = logged; carried = carried; steady = steady })
 
 pub found_number : (r : Result ℕ MountError) → r ≢ Err Cut → r ≢ Err BadImage → is_some (found r) ≡ true
 found_number (Ok number) cut bad = refl
@@ -30,13 +31,42 @@ found_number (Err BadImage) cut bad = absurd (bad refl)
 pub some_is_not_none : {A : Type 0} (o : Option A) → IsSome o → o ≡ None → ⊥
 some_is_not_none o some none = absurd (cc)
 
-pub handled_line : (bytes : List ℕ) (outcome : Handled) → line_for (handled bytes outcome).input ≡ ApduLine bytes
-handled_line bytes Silent = refl
-handled_line bytes (Answered plain finished rule answer sent) = refl
+pub handled_line : (bytes : List ℕ) (asks : List Ask) (outcome : Handled) → line_for (handled bytes asks outcome).input ≡ ApduLine bytes
+handled_line bytes asks Silent = refl
+handled_line bytes asks (Answered plain finished rule answer sent) = refl
 
-pub handled_steady : (bytes : List ℕ) (outcome : Handled) → is_steady (handled bytes outcome).input ≡ true
-handled_steady bytes Silent = refl
-handled_steady bytes (Answered plain finished rule answer sent) = refl
+pub handled_steady : (bytes : List ℕ) (asks : List Ask) (outcome : Handled) → is_steady (handled bytes asks outcome).input ≡ true
+handled_steady bytes asks Silent = refl
+handled_steady bytes asks (Answered plain finished rule answer sent) = refl
+
+-- the moment has the questions that were put
+pub handled_asks : (bytes : List ℕ) (asks : List Ask) (outcome : Handled) → (is_silent outcome ≡ true → asks ≡ []) → (handled bytes asks outcome).asks ≡ asks
+handled_asks bytes asks Silent none = sym (none refl)
+handled_asks bytes asks (Answered plain finished rule answer sent) none = refl
+
+-- a command was handed over
+pub made_handled : (old new : Scene) (log room log_now : List Ask) (bytes : List ℕ) (asks : List Ask) (outcome : Handled) → room ≡ log → log_now ≡ room ++ asks → (is_silent outcome ≡ true → asks ≡ []) → Follows old.chip old.device old.cells new.chip new.device new.cells (handled bytes asks outcome)
+    → Made old new log log_now (ApduLine bytes) (Did (handled bytes asks outcome))
+made_handled old new log room log_now bytes asks outcome same logged none follows = record {
+  comes = follows;
+  logged = logged ∙ ap (λ (l : List Ask). l ++ asks) same ∙ ap (λ (l : List Ask). log ++ l) (sym (handled_asks bytes asks outcome none));
+  carried = handled_line bytes asks outcome;
+  steady = λ one. handled_steady bytes asks outcome;
+}
+
+pub made_as : (old new : Scene) (log log_now : List Ask) (line : ScriptLine) (e m : PlainMoment) → m ≡ e → Made old new log log_now line (Did e) → Made old new log log_now line (Did m)
+made_as old new log log_now line e m same made = subst (λ (x : PlainMoment). Made old new log log_now line (Did x)) (sym same) made
+
+pub on_err : {A E : Type 0} (r : Result A E) (P : Type 0) → P → OnErr r P
+on_err (Ok x) P p = _
+on_err (Err e) P p = p
+
+-- what was appended is what stands behind
+pub asks_behind : (log log_now asks : List Ask) → log_now ≡ log ++ asks → drop (length log) log_now ≡ asks
+asks_behind log log_now asks logged = ap (drop (length log)) logged ∙ drop_at log asks (length log) refl
+
+pub no_shorter : (log log_now asks : List Ask) → log_now ≡ log ++ asks → length log ≤ length log_now
+no_shorter log log_now asks logged = let size : length log_now ≡ length log + length asks = ap length logged ∙ length-append log asks in omega arith
 
 -- a chip without power fits the journal without moments
 pub new_fits : (chip : Chip) (device : Device) (cells : List ℕ) (opening : FullRecord) → chip.life ≡ None → stands cells ≡ Some opening → Fits chip device cells opening []
@@ -44,49 +74,53 @@ new_fits chip device cells opening off standing =
     subst (λ (l : Option Running). Fits (record { life = l }) device cells opening []) (sym off) (record { powered = refl; sound = tt; living = tt; standing = standing })
 
 -- a line more, by what it made
-more : (h : Happening) (opening : FullRecord) (start old new : Scene) (lines : List ScriptLine) (line : ScriptLine) (first before now : SinkSeen) → before.tells ≡ first.tells → slice_index old.cells 0 ≡ slice_index start.cells 0 → IsRunSoFar opening start old lines first before → Made old new line h → (IsTrue before.tells → Grew before.written now.written (text_of h)) → IsRunSoFar opening start new (lines ++ line ∷ []) first now
-more (Did m) opening start old new lines line first before now tells layout run made written =
+more : (h : Happening) (opening : FullRecord) (start old new : Scene) (log_0 log log_now : List Ask) (lines : List ScriptLine) (line : ScriptLine) (first before now : SinkSeen) → before.tells ≡ first.tells → slice_index old.cells 0 ≡ slice_index start.cells 0 → IsRunSoFar opening start old log_0 log lines first before → Made old new log log_now line h → (IsTrue before.tells → Grew before.written now.written (text_of h)) → IsRunSoFar opening start new log_0 log_now (lines ++ line ∷ []) first now
+more (Did m) opening start old new log_0 log log_now lines line first before now tells layout run made written =
     let step = made.comes opening (journal run.happened) run.fits in
     record {
       happened = Did m ∷ run.happened;
       fits = step.1;
       legal = (step.0, run.legal);
       steady = λ one. (run.steady one, made.steady (layout ∙ one));
-      asked = rw (run.asked, made.asked) refl;
+      carried = rw (run.carried, made.carried) refl;
+      logged = made.logged ∙ ap (λ (l : List Ask). l ++ m.asks) run.logged ∙ append_assoc log_0 (asked (journal run.happened)) m.asks;
       written = λ told. rw (written (rw tells told), run.written told) (append_assoc first.written (trace (journal run.happened)) (text m));
     }
-more (Planned write tear) opening start old new lines line first before now tells layout run made written = record {
+more (Planned write tear) opening start old new log_0 log log_now lines line first before now tells layout run made written = record {
   happened = Planned write tear ∷ run.happened;
   fits = made.comes opening (journal run.happened) run.fits;
   legal = run.legal;
   steady = run.steady;
-  asked = rw (run.asked, made.asked) refl;
+  carried = rw (run.carried, made.carried) refl;
+  logged = made.logged ∙ append-nil log ∙ run.logged;
   written = λ told. written (rw tells told) ∙ append-nil before.written ∙ run.written told;
 }
 
-pub ran_more : (opening : FullRecord) (start old new : Scene) (lines : List ScriptLine) (line : ScriptLine) (first before now : SinkSeen) → before.tells ≡ first.tells → slice_index old.cells 0 ≡ slice_index start.cells 0 → IsRunSoFar opening start old lines first before → DidLine old new line before now → IsRunSoFar opening start new (lines ++ line ∷ []) first now
-ran_more opening start old new lines line first before now tells layout run did = more did.happened opening start old new lines line first before now tells layout run did.made did.written
+pub ran_more : (opening : FullRecord) (start old new : Scene) (log_0 log log_now : List Ask) (lines : List ScriptLine) (line : ScriptLine) (first before now : SinkSeen) → before.tells ≡ first.tells → slice_index old.cells 0 ≡ slice_index start.cells 0 → IsRunSoFar opening start old log_0 log lines first before → DidLine old new log log_now line before now → IsRunSoFar opening start new log_0 log_now (lines ++ line ∷ []) first now
+ran_more opening start old new log_0 log log_now lines line first before now tells layout run did = more did.happened opening start old new log_0 log log_now lines line first before now tells layout run did.made did.written
 
 whole_front : (moments : List PlainMoment) → IsFrontOfTrace (trace moments) moments
 whole_front [] = refl
 whole_front (m ∷ before) = (text m, ([], append-nil (text m)), refl)
 
 -- a line broke off
-pub broke_off : (opening : FullRecord) (start old new : Scene) (lines : List ScriptLine) (line : ScriptLine) (rest whole : List ScriptLine) (first before now : SinkSeen) → lines ++ line ∷ rest ≡ whole → before.tells ≡ first.tells → slice_index old.cells 0 ≡ slice_index start.cells 0 → IsRunSoFar opening start old lines first before → BrokeOffLine old new line before now → DidSomeLines opening whole start.cells first now
-broke_off opening start old new lines line rest whole first before now parts tells layout run (inl same) = record {
+pub broke_off : (opening : FullRecord) (start old new : Scene) (log_0 log log_now : List Ask) (lines : List ScriptLine) (line : ScriptLine) (rest whole : List ScriptLine) (first before now : SinkSeen) → lines ++ line ∷ rest ≡ whole → before.tells ≡ first.tells → slice_index old.cells 0 ≡ slice_index start.cells 0 → IsRunSoFar opening start old log_0 log lines first before → BrokeOffLine old new log log_now line before now → DidSomeLines opening whole start.cells log_0 log_now first now
+broke_off opening start old new log_0 log log_now lines line rest whole first before now parts tells layout run (inl same) = record {
   happened = run.happened;
   legal = run.legal;
   steady = run.steady;
-  asked = (line ∷ rest, rw run.asked parts);
-  written = λ told. (trace (journal run.happened), whole_front (journal run.happened), same.1 (rw tells told) ∙ run.written told);
+  carried = (line ∷ rest, rw run.carried parts);
+  logged = same.1 ∙ run.logged;
+  written = λ told. (trace (journal run.happened), whole_front (journal run.happened), same.2 (rw tells told) ∙ run.written told);
 }
-broke_off opening start old new lines line rest whole first before now parts tells layout run (inr part) =
+broke_off opening start old new log_0 log log_now lines line rest whole first before now parts tells layout run (inr part) =
     let step = part.made.comes opening (journal run.happened) run.fits in
     record {
       happened = Did part.moment ∷ run.happened;
       legal = (step.0, run.legal);
       steady = λ one. (run.steady one, part.made.steady (layout ∙ one));
-      asked = (rest, rw (run.asked, part.made.asked) (append_assoc lines (line ∷ []) rest ∙ parts));
+      carried = (rest, rw (run.carried, part.made.carried) (append_assoc lines (line ∷ []) rest ∙ parts));
+      logged = part.made.logged ∙ ap (λ (l : List Ask). l ++ part.moment.asks) run.logged ∙ append_assoc log_0 (asked (journal run.happened)) part.moment.asks;
       written = λ told.
           let grew = part.written (rw tells told) in
           (trace (journal run.happened) ++ grew.0, (grew.0, grew.1, refl), grew.2 ∙ ap (λ (w : List ℕ). w ++ grew.0) (run.written told) ∙ append_assoc first.written (trace (journal run.happened)) grew.0);
@@ -104,10 +138,10 @@ taken_apart lines i line within is =
     sym (append_assoc (map plain_line (take i lines)) (plain_line line ∷ []) (map plain_line (drop (i + 1) lines)))
     ∙ ap (λ (l : List ScriptLine). l ++ map plain_line (drop (i + 1) lines)) (sym (taken_more lines i line within is)) ∙ front
 
-pub ran_taken : (opening : FullRecord) (start old new : Scene) (lines : List Line) (i : ℕ) (line : Line) (first before now : SinkSeen) → i < length lines → line ≡ get_or lines i line → before.tells ≡ first.tells → slice_index old.cells 0 ≡ slice_index start.cells 0 → IsRunSoFar opening start old (map plain_line (take i lines)) first before → DidLine old new (plain_line line) before now → IsRunSoFar opening start new (map plain_line (take (i + 1) lines)) first now
-ran_taken opening start old new lines i line first before now within is tells layout run did =
-    subst (λ (l : List ScriptLine). IsRunSoFar opening start new l first now) (sym (taken_more lines i line within is))
-    (ran_more opening start old new (map plain_line (take i lines)) (plain_line line) first before now tells layout run did)
+pub ran_taken : (opening : FullRecord) (start old new : Scene) (log_0 log log_now : List Ask) (lines : List Line) (i : ℕ) (line : Line) (first before now : SinkSeen) → i < length lines → line ≡ get_or lines i line → before.tells ≡ first.tells → slice_index old.cells 0 ≡ slice_index start.cells 0 → IsRunSoFar opening start old log_0 log (map plain_line (take i lines)) first before → DidLine old new log log_now (plain_line line) before now → IsRunSoFar opening start new log_0 log_now (map plain_line (take (i + 1) lines)) first now
+ran_taken opening start old new log_0 log log_now lines i line first before now within is tells layout run did =
+    subst (λ (l : List ScriptLine). IsRunSoFar opening start new log_0 log_now l first now) (sym (taken_more lines i line within is))
+    (ran_more opening start old new log_0 log log_now (map plain_line (take i lines)) (plain_line line) first before now tells layout run did)
 
 pub new_sound : (chip : Chip) (device : Device) (cells : List ℕ) → chip.life ≡ None → IsSound chip device cells
 new_sound chip device cells off = subst (λ (l : Option Running). IsSoundLife l device cells) (sym off) tt

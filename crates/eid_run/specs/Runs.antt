@@ -5,7 +5,8 @@ use Rattle.eid_cells.specs.declared.tear.Tear.{Tear}
 use Rattle.eid_cells.specs.Device.{Device}
 use Rattle.eid_record.specs.Plain.{FullRecord}
 use Rattle.eid_store.specs.Stands.{stands}
-use Rattle.eid_model.specs.Moments.{Event, PoweredOn, PoweredOff, Received, PlainMoment, is_steady, AreSteady}
+use Rattle.eid_copro.specs.declared.ask.Ask.{Ask}
+use Rattle.eid_model.specs.Moments.{Event, PoweredOn, PoweredOff, Received, PlainMoment, asked, is_steady, AreSteady}
 use Rattle.eid_model.specs.Legal.{AreLegal, kept}
 use Rattle.eid_model.specs.Trace.{text, trace}
 use Rattle.eid_chip.specs.declared.chip.Chip.{Chip}
@@ -38,6 +39,11 @@ journal [] = []
 journal (Did m ∷ before) = m ∷ journal before
 journal (Planned write tear ∷ before) = journal before
 
+-- the questions that the coprocessor was asked, with their answers
+abbrev pub asks_of : Happening → List Ask
+asks_of (Did m) = m.asks
+asks_of (Planned write tear) = []
+
 abbrev pub text_of : Happening → List ℕ
 text_of (Did m) = text m
 text_of (Planned write tear) = []
@@ -67,26 +73,32 @@ pub record GoesOn (old new : Scene) : Type 0 where
   pub stands : stands new.cells ≡ stands old.cells
   pub layout : slice_index new.cells 0 ≡ slice_index old.cells 0
 
--- a line was carried out
-pub record Made (old new : Scene) (line : ScriptLine) (h : Happening) : Type 0 where
+-- a line was carried out, and the coprocessor's log grew by its questions
+pub record Made (old new : Scene) (log log_now : List Ask) (line : ScriptLine) (h : Happening) : Type 0 where
   pub comes : Comes old new h
-  pub asked : line_of h ≡ line
+  pub logged : log_now ≡ log ++ asks_of h
+  pub carried : line_of h ≡ line
   pub steady : slice_index old.cells 0 ≡ 1 → keeps_steady h ≡ true
 
 -- and its text was written whole
-pub record DidLine (old new : Scene) (line : ScriptLine) (before now : SinkSeen) : Type 0 where
+pub record DidLine (old new : Scene) (log log_now : List Ask) (line : ScriptLine) (before now : SinkSeen) : Type 0 where
   pub happened : Happening
-  pub made : Made old new line happened
+  pub made : Made old new log log_now line happened
   pub written : IsTrue before.tells → Grew before.written now.written (text_of happened)
 
 -- a line broke off: it did not happen, or only a front of its text was written
-pub record PartOfLine (old new : Scene) (line : ScriptLine) (before now : SinkSeen) : Type 0 where
+pub record PartOfLine (old new : Scene) (log log_now : List Ask) (line : ScriptLine) (before now : SinkSeen) : Type 0 where
   pub moment : PlainMoment
-  pub made : Made old new line (Did moment)
+  pub made : Made old new log log_now line (Did moment)
   pub written : IsTrue before.tells → GrewByPart before.written now.written (text moment)
 
-abbrev pub BrokeOffLine : Scene → Scene → ScriptLine → SinkSeen → SinkSeen → Type 0
-BrokeOffLine old new line before now = ((new ≡ old) × (IsTrue before.tells → now.written ≡ before.written)) ⊎ PartOfLine old new line before now
+abbrev pub BrokeOffLine : Scene → Scene → List Ask → List Ask → ScriptLine → SinkSeen → SinkSeen → Type 0
+BrokeOffLine old new log log_now line before now =
+    ((new ≡ old) × (log_now ≡ log) × (IsTrue before.tells → now.written ≡ before.written)) ⊎ PartOfLine old new log log_now line before now
+
+-- memory was wanting in a line: it did not happen, or its moment is not told
+abbrev pub Stopped : Scene → Scene → List Ask → List Ask → ScriptLine → Type 0
+Stopped old new log log_now line = ((new ≡ old) × (log_now ≡ log)) ⊎ ((m : PlainMoment) × Made old new log log_now line (Did m))
 
 -- a front of the trace, in which all moments but the newest are whole
 abbrev pub IsFrontOfTrace : List ℕ → List PlainMoment → Type 0
@@ -94,30 +106,34 @@ IsFrontOfTrace written [] = written ≡ []
 IsFrontOfTrace written (m ∷ before) = (front : List ℕ) × IsFront front (text m) × (written ≡ trace before ++ front)
 
 -- the lines so far were carried out, and the scene fits their journal
-pub record IsRunSoFar (opening : FullRecord) (start now_at : Scene) (lines : List ScriptLine) (before now : SinkSeen) : Type 0 where
+pub record IsRunSoFar (opening : FullRecord) (start now_at : Scene) (log log_now : List Ask) (lines : List ScriptLine) (before now : SinkSeen) : Type 0 where
   pub happened : List Happening
   pub fits : FitsScene now_at opening (journal happened)
   pub legal : AreLegal opening (journal happened)
   pub steady : slice_index start.cells 0 ≡ 1 → AreSteady (journal happened)
-  pub asked : lines_of happened ≡ lines
+  pub carried : lines_of happened ≡ lines
+  pub logged : log_now ≡ log ++ asked (journal happened)
   pub written : IsTrue before.tells → Grew before.written now.written (trace (journal happened))
 
 -- all lines were carried out, over cells that stood for this record
-pub record DidLines (opening : FullRecord) (lines : List ScriptLine) (old_cells new_cells : List ℕ) (before now : SinkSeen) : Type 0 where
+pub record DidLines (opening : FullRecord) (lines : List ScriptLine) (old_cells new_cells : List ℕ) (log log_now : List Ask) (before now : SinkSeen) : Type 0 where
   pub happened : List Happening
   pub legal : AreLegal opening (journal happened)
   -- cells of layout 1 are mounted without a write, so no power is lost
   pub steady : slice_index old_cells 0 ≡ 1 → AreSteady (journal happened)
-  pub asked : lines_of happened ≡ lines
+  pub carried : lines_of happened ≡ lines
+  -- the coprocessor's log grew by the questions of the moments
+  pub logged : log_now ≡ log ++ asked (journal happened)
   pub cells : stands new_cells ≡ Some (kept opening (journal happened))
   pub written : IsTrue before.tells → Grew before.written now.written (trace (journal happened))
 
 -- the lines broke off: a front of them was carried out, and a front of the trace written
-pub record DidSomeLines (opening : FullRecord) (lines : List ScriptLine) (old_cells : List ℕ) (before now : SinkSeen) : Type 0 where
+pub record DidSomeLines (opening : FullRecord) (lines : List ScriptLine) (old_cells : List ℕ) (log log_now : List Ask) (before now : SinkSeen) : Type 0 where
   pub happened : List Happening
   pub legal : AreLegal opening (journal happened)
   pub steady : slice_index old_cells 0 ≡ 1 → AreSteady (journal happened)
-  pub asked : (rest : List ScriptLine) × (lines_of happened ++ rest ≡ lines)
+  pub carried : (rest : List ScriptLine) × (lines_of happened ++ rest ≡ lines)
+  pub logged : log_now ≡ log ++ asked (journal happened)
   pub written : IsTrue before.tells → (part : List ℕ) × IsFrontOfTrace part (journal happened) × (now.written ≡ before.written ++ part)
 
 abbrev pub scene : Chip → Device → List ℕ → Scene

@@ -1,34 +1,55 @@
 -- A command of a known kind, in a request that is not too long, is answered by the rules of its kind, another
 -- one by the rules before them.
-use Rattle.std.proofs.Common.{ap, refl}
+use Rattle.std.proofs.Common.{ap, refl, []}
 use Rattle.eid_base.specs.declared.codes.Rule.{Rule}
 use Rattle.eid_apdu.specs.Command.{plain_command}
 use Rattle.eid_chip.specs.Held.{held}
-use Rattle.eid_chip.specs.Steps.{state, refusal}
-use Rattle.eid_chip.proofs.Outcomes.{told_answers, name_refused, request_refused, refused_answers, long_request, request_passes}
+use Rattle.eid_chip.specs.States.{state}
+use Rattle.eid_chip.specs.Steps.{refusal}
+use Rattle.eid_chip.proofs.Outcomes.{told_answers, name_refused, request_refused, long_request, request_passes}
+use Rattle.eid_chip.proofs.Unasked.{not_asked}
 use Rattle.eid_chip.proofs.chip.react.Goals as goal
 
 pub returns-in-Err : goal.returns-in-Err
 returns-in-Err g c =
+    let copro = g.C.Coprocessor in
     let kept = held (g.E.Eeprom.cells c.args.cells.now) in
-    let old = state c.args.session in
     let not_named = c.in-Err.ensures in
-    refused_answers kept old (plain_command c.args.c.now) (refusal c.in-Err.refusal) c.refused.result
-    (name_refused kept old (plain_command c.args.c.now) (refusal c.in-Err.refusal) (not_named.refused kept old)) not_named.lasting.0 not_named.lasting.1
-    (ap (λ (r : Rule). r.0) c.refused.ensures.0) c.refused.ensures.1 (ap state c.refused.ensures.2)
+    record {
+      asks = [];
+      were_asked = not_asked copro.log copro.spare copro.faults copro.told c.args.copro.now;
+      answers = λ channel.
+          name_refused kept (state c.args.session channel) (plain_command c.args.c.now) (refusal c.in-Err.refusal) c.refused.result
+          (not_named.refused kept (state c.args.session channel) []) not_named.lasting.0
+          (ap (λ (r : Rule). r.0) c.refused.ensures.rule) c.refused.ensures.reply (c.refused.ensures.left channel);
+    }
 
 pub returns-then-c-gt-MAX_REQUEST : goal.returns-then-c-gt-MAX_REQUEST
 returns-then-c-gt-MAX_REQUEST g c =
+    let copro = g.C.Coprocessor in
     let kept = held (g.E.Eeprom.cells c.args.cells.now) in
-    let old = state c.args.session in
     let refused = c.refused-then-c-gt-MAX_REQUEST in
-    refused_answers kept old (plain_command c.args.c.now) (record { rule = 8; status = 0x6700 }) refused.result
-    (request_refused kept old (plain_command c.args.c.now) (record { rule = 8; status = 0x6700 }) (c.in-Ok.ensures.passed kept old) (long_request kept old (plain_command c.args.c.now) c.if-c-gt-MAX_REQUEST.true))
-    refl refl (ap (λ (r : Rule). r.0) refused.ensures.0) refused.ensures.1 (ap state refused.ensures.2)
+    record {
+      asks = [];
+      were_asked = not_asked copro.log copro.spare copro.faults copro.told c.args.copro.now;
+      answers = λ channel.
+          request_refused kept (state c.args.session channel) (plain_command c.args.c.now) (record { rule = 8; status = 0x6700 }) refused.result
+          (c.in-Ok.ensures.passed kept (state c.args.session channel) []) (long_request kept (state c.args.session channel) (plain_command c.args.c.now) [] c.if-c-gt-MAX_REQUEST.true)
+          refl (ap (λ (r : Rule). r.0) refused.ensures.rule) refused.ensures.reply (refused.ensures.left channel);
+    }
+
+pub carry_out-requires-clause-turn : goal.carry_out-requires-clause-turn
+carry_out-requires-clause-turn g c = c.in-Ok.ensures.turn
 
 pub returns : goal.returns
 returns g c =
     let kept = held (g.E.Eeprom.cells c.args.cells.now) in
-    let old = state c.args.session in
-    told_answers kept old (plain_command c.args.c.now) c.in-Ok.kind c.carry_out.result refl c.in-Ok.ensures.named (c.in-Ok.ensures.passed kept old)
-    (request_passes kept old (plain_command c.args.c.now) c.if-c-gt-MAX_REQUEST.false) c.carry_out.ensures
+    let did = c.carry_out.ensures in
+    record {
+      asks = did.asks;
+      were_asked = did.were_asked;
+      answers = λ channel.
+          told_answers kept (state c.args.session channel) (plain_command c.args.c.now) c.in-Ok.kind did.asks c.carry_out.result c.in-Ok.ensures.named
+          (c.in-Ok.ensures.passed kept (state c.args.session channel))
+          (λ answers. request_passes kept (state c.args.session channel) (plain_command c.args.c.now) answers c.if-c-gt-MAX_REQUEST.false) (did.tells channel);
+    }

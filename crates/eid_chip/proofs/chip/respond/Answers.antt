@@ -1,32 +1,60 @@
--- What was heard is what read_command says.
-use Rattle.std.proofs.Common.{◌≡◌, length, ap, refl, Some, arith}
-use Rattle.eid_apdu.specs.Command.{PlainCommand, plain_command}
+-- What was heard without a channel is what read_command says.
+use Rattle.std.proofs.Common.{◌≡◌, ◌<◌, ◌≤◌, ℕ, List, length, ap, refl, Some, None, [], arith}
+use Rattle.eid_base.specs.declared.codes.Rule.{Rule}
+use Rattle.eid_apdu.specs.Command.{PlainCommand, Spells, plain_command}
+use Rattle.eid_apdu.proofs.OneCommand.{spells_one}
 use Rattle.eid_model.specs.Rules.{NoCommand, Command}
 use Rattle.eid_chip.specs.Held.{held}
+use Rattle.eid_chip.specs.States.{state}
+use Rattle.eid_chip.proofs.Outcomes.{hearing_refused}
+use Rattle.eid_chip.proofs.Unasked.{not_asked}
 use Rattle.eid_chip.proofs.chip.respond.Goals as goal
 
+-- bytes that spell a command whose body is too long spell none with a shorter one
+too_long : (bytes : List ℕ) (c d : PlainCommand) → Spells bytes c → Spells bytes d → 2200 < length c.body → length d.body ≤ 2200 → ⊥
+too_long bytes c d spelled other long short =
+    let same : length c.body ≡ length d.body = ap (λ (x : PlainCommand). length x.body) (spells_one bytes c d spelled other) in
+    omega arith
+
 pub returns-in_default : goal.returns-in_default
-returns-in_default g c = record {
-  heard = NoCommand;
-  hears = λ d spelled short. c.in_default.ensures.only d spelled;
-  plain = rw c.not_heard.ensures.plain refl;
-  answers = c.not_heard.ensures.answers (held (g.E.Eeprom.cells c.args.cells.now));
-}
+returns-in_default g c =
+    let copro = g.C.Coprocessor in
+    let kept = held (g.E.Eeprom.cells c.args.cells.now) in
+    record {
+      heard = NoCommand;
+      hears = λ d spelled short. c.in_default.ensures.only d spelled;
+      plain = rw c.not_heard.ensures.plain refl;
+      asks = [];
+      were_asked = not_asked copro.log copro.spare copro.faults copro.told c.args.copro.now;
+      answers =
+          hearing_refused kept (state c.args.session None) NoCommand (record { rule = 1; status = 0x6700 }) c.not_heard.result.reaction refl refl
+          (ap (λ (r : Rule). r.0) c.not_heard.ensures.reaction.0) c.not_heard.ensures.reaction.1 (c.not_heard.ensures.left None);
+    }
 
 pub returns-then-c-gt-MAX_BODY : goal.returns-then-c-gt-MAX_BODY
-returns-then-c-gt-MAX_BODY g c = record {
-  heard = NoCommand;
-  hears = λ d spelled short.
-      let same : length c.in-Ok.c.body.now ≡ length d.body = ap (λ (p : PlainCommand). length p.body) (c.in-Ok.ensures.only d spelled) in
-      absurd (omega arith);
-  plain = rw c.not_heard-then-c-gt-MAX_BODY.ensures.plain refl;
-  answers = c.not_heard-then-c-gt-MAX_BODY.ensures.answers (held (g.E.Eeprom.cells c.args.cells.now));
-}
+returns-then-c-gt-MAX_BODY g c =
+    let copro = g.C.Coprocessor in
+    let kept = held (g.E.Eeprom.cells c.args.cells.now) in
+    let refused = c.not_heard-then-c-gt-MAX_BODY in
+    record {
+      heard = NoCommand;
+      hears = λ d spelled short. too_long c.args.bytes.now (plain_command c.in-Ok.c) d c.in-Ok.ensures.found spelled c.if-c-gt-MAX_BODY.true short;
+      plain = rw refused.ensures.plain refl;
+      asks = [];
+      were_asked = not_asked copro.log copro.spare copro.faults copro.told c.args.copro.now;
+      answers =
+          hearing_refused kept (state c.args.session None) NoCommand (record { rule = 1; status = 0x6700 }) refused.result.reaction refl refl
+          (ap (λ (r : Rule). r.0) refused.ensures.reaction.0) refused.ensures.reaction.1 (refused.ensures.left None);
+    }
 
 pub returns : goal.returns
-returns g c = record {
-  heard = Command (plain_command c.in-Ok.c);
-  hears = (c.in-Ok.ensures.found, c.if-c-gt-MAX_BODY.false);
-  plain = ap Some c.own.ensures;
-  answers = c.react.ensures;
-}
+returns g c =
+    let did = c.react.ensures in
+    record {
+      heard = Command (plain_command c.in-Ok.c);
+      hears = (c.in-Ok.ensures.found, c.if-c-gt-MAX_BODY.false);
+      plain = ap Some c.own.ensures;
+      asks = did.asks;
+      were_asked = did.were_asked;
+      answers = did.answers None;
+    }

@@ -13,12 +13,14 @@ loop-line-init g c = record {
     fits = new_fits _ _ _ opening c.new-chip.ensures standing;
     legal = tt;
     steady = λ one. tt;
-    asked = refl;
+    carried = refl;
+    logged = sym (append-nil _);
     written = λ told. sym (append-nil _);
   };
   sound = new_sound c.new-chip.result _ _ c.new-chip.ensures;
   stands = c.requires;
   layout = refl;
+  told = refl;
   tells = refl;
   later = omega arith;
 }
@@ -27,7 +29,7 @@ pub returns-in-Err-clause-broke : goal.returns-in-Err-clause-broke
 returns-in-Err-clause-broke g c = λ opening standing.
     let seen = g.K.Sink.seen in
     let lines = c.args.lines.now in
-    broke_off opening _ _ _ (map plain_line (take c.loop-line.line-index lines)) (plain_line c.line-item.result)
+    broke_off opening _ _ _ _ _ _ (map plain_line (take c.loop-line.line-index lines)) (plain_line c.line-item.result)
     (map plain_line (drop (c.loop-line.line-index + 1) lines)) (map plain_line lines) (seen c.args.out.now) (seen c.loop-line.out) (seen c.run_line.new.out)
     (taken_apart lines c.loop-line.line-index c.line-item.result c.loop-line-test.true c.line-item.is)
     c.loop-line.invariant.tells c.loop-line.invariant.layout (c.loop-line.invariant.run opening standing) c.in-Err.ensures.broke
@@ -37,11 +39,12 @@ loop-line-preserved g c =
     let seen = g.K.Sink.seen in
     let lines = c.args.lines.now in
     record {
-      run = λ opening standing. ran_taken opening _ _ _ lines c.loop-line.line-index c.line-item.result (seen c.args.out.now) (seen c.loop-line.out) (seen c.run_line.new.out)
+      run = λ opening standing. ran_taken opening _ _ _ _ _ _ lines c.loop-line.line-index c.line-item.result (seen c.args.out.now) (seen c.loop-line.out) (seen c.run_line.new.out)
           c.loop-line-test.true c.line-item.is c.loop-line.invariant.tells c.loop-line.invariant.layout (c.loop-line.invariant.run opening standing) c.in_default.ensures.did;
       sound = c.run_line.ensures.goes_on.sound;
       stands = subst (λ (o : Option FullRecord). IsSome o) (sym c.run_line.ensures.goes_on.stands) c.loop-line.invariant.stands;
       layout = c.run_line.ensures.goes_on.layout ∙ c.loop-line.invariant.layout;
+      told = c.run_line.ensures.told ∙ c.loop-line.invariant.told;
       tells = c.run_line.ensures.tells ∙ c.loop-line.invariant.tells;
       later = omega (arith, c.run_line.ensures.later, c.loop-line.invariant.later);
     }
@@ -50,4 +53,4 @@ pub returns-clause-did : goal.returns-clause-did
 returns-clause-did g c = λ opening standing.
     let run = c.loop-line.invariant.run opening standing in
     let whole = take_all c.loop-line.line-index c.args.lines.now c.loop-line-test.false in
-    record { happened = run.happened; legal = run.legal; steady = run.steady; asked = run.asked ∙ ap (map plain_line) whole; cells = run.fits.standing; written = run.written }
+    record { happened = run.happened; legal = run.legal; steady = run.steady; carried = run.carried ∙ ap (map plain_line) whole; logged = run.logged; cells = run.fits.standing; written = run.written }

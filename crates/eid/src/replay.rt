@@ -1,0 +1,46 @@
+//! The command `replay`.
+ghost use Rattle.eid.specs.Commands.{Replay};
+ghost use Rattle.eid.specs.Works.{Meets};
+
+use crate::exit::Exit;
+use crate::load::{load_answers, load_image, load_script};
+use crate::run::run_and_store;
+use eid_base::{Folder, Sink};
+use eid_copro::ScriptCoprocessor;
+use std::alloc::Global;
+
+/// Runs a script on an image with the coprocessor's answers from a file: reads and checks all three,
+/// writes the trace, and then stores the cells that the run left.
+pub fn replay<F: Folder, K: Sink>(
+    alloc: Global,
+    image: &str,
+    script: &str,
+    answers: &str,
+    folder: &mut F,
+    out: &mut K,
+) -> Exit
+    ensures { Meets (Replay image.now script.now answers.now) (F.seen folder.old) (F.seen folder.new) (K.seen out.old) (K.seen out.new) result }
+{
+    let cells = match load_image(alloc, folder, image) {
+        Ok(cells) => cells,
+        Err(exit) => return exit,
+    };
+    let lines = match load_script(alloc, folder, script) {
+        Ok(lines) => lines,
+        Err(exit) => return exit,
+    };
+    let told = match load_answers(alloc, folder, answers) {
+        Ok(told) => told,
+        Err(exit) => return exit,
+    };
+    let mut copro = ScriptCoprocessor::new(alloc, told);
+    run_and_store(
+        alloc,
+        image,
+        cells,
+        lines.as_slice(),
+        &mut copro,
+        folder,
+        out,
+    )
+}

@@ -1,0 +1,39 @@
+-- How a step ends that asks nothing and is carried out.
+use Rattle.std.proofs.Common.{◌≡◌, ◌∙◌, ap, Bool, true, false, [], ◌++◌, Option, None, Some, refl}
+use Rattle.std.specs.Prelude.{option_map, is_none, if◌then◌else◌}
+use Rattle.eid_apdu.specs.Command.{PlainCommand}
+use Rattle.eid_apdu.specs.Answer.{plain_reply}
+use Rattle.eid_copro.specs.declared.ask.Question.{Question}
+use Rattle.eid_record.specs.Plain.{FullRecord}
+use Rattle.eid_sm.specs.Keys.{ChannelState}
+use Rattle.eid_model.specs.declared.kind.Kind.{Kind}
+use Rattle.eid_model.specs.Sessions.{State, two_messages_later, advanced}
+use Rattle.eid_model.specs.Rules.{RuleRow, kind_rules, answer_rules, proof_rules, first_failed}
+use Rattle.eid_model.specs.Answers.{outcome_by, question_of, success_of}
+use Rattle.eid_chip.specs.declared.session.Memory.{Memory}
+use Rattle.eid_chip.specs.declared.session.Session.{Session}
+use Rattle.eid_chip.specs.declared.session.Run.TheVariants as runs
+use Rattle.eid_chip.specs.declared.reaction.Reaction.{Reaction}
+use Rattle.eid_chip.specs.States.{state, memory, phase_of, next_of}
+use Rattle.eid_chip.specs.Steps.{Told, known}
+use Rattle.eid_model.specs.Runs as phases
+
+-- no question, whatever the rules say
+unasked_at : (b : Bool) (q : Option Question) → q ≡ None → (if b then q else None) ≡ None
+unasked_at true q e = e
+unasked_at false q e = refl
+
+-- the state of a session without a run
+pub idle_state : (s : Session) (m : Memory) (channel : Option ChannelState) → s.run ≡ runs.Idle → s.memory ≡ m → state s channel ≡ record { next = None; phase = phases.Idle; selected = m.selected; current = option_map (λ file. file.0) m.current; pace = option_map memory m.pace; channel = channel }
+idle_state s m channel run kept =
+    let phase = ap phase_of run in
+    let next = ap next_of run in
+    rw (phase, next, kept) refl
+
+-- a command of a kind without questions that fails no rule
+pub carried : (kind : Kind) (kept : FullRecord) (old : State) (c : PlainCommand) (r : Reaction) → question_of (Some kind) (known kind kept old c []) ≡ None → first_failed (kind_rules ++ answer_rules ++ proof_rules) (known kind kept old c []) ≡ None → r.rule.0 ≡ 0 → r.opened ≡ None → plain_reply r.reply ≡ success_of kind (known kind kept old c []) → state r.session (option_map two_messages_later old.channel) ≡ advanced kind c [] old → Told kind kept old c [] r
+carried kind kept old c r silent passes rule opened reply left = record {
+  asked = unasked_at (is_none (first_failed (kind_rules ++ answer_rules) (known kind kept old c []))) _ silent;
+  ended = ap (λ (f : Option RuleRow). outcome_by f (known kind kept old c [])) passes ∙ cc;
+  left = rw (rule, opened) left;
+}

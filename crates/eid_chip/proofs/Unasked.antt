@@ -1,0 +1,44 @@
+-- Steps that put no question.
+use Rattle.std.proofs.Common.{◌≡◌, sym, ℕ, List, [], Option, refl, subst, arith}
+use Rattle.std.proofs.lemmas.List.{append-nil}
+use Rattle.eid_apdu.specs.Command.{PlainCommand}
+use Rattle.eid_apdu.specs.Answer.{plain_reply}
+use Rattle.eid_copro.specs.Told.{Told as ToldBefore}
+use Rattle.eid_copro.specs.declared.ask.Ask.{Ask}
+use Rattle.eid_record.specs.Plain.{FullRecord}
+use Rattle.eid_pace.specs.Asking.{WereAsked}
+use Rattle.eid_sm.specs.Keys.{ChannelState}
+use Rattle.eid_model.specs.declared.kind.Kind.{Kind}
+use Rattle.eid_model.specs.declared.kind.Kind.TheVariants.{NoStep}
+use Rattle.eid_model.specs.Sessions.{State, ended_run}
+use Rattle.eid_model.specs.Answers.{status_alone}
+use Rattle.eid_chip.specs.declared.session.Session.{Session}
+use Rattle.eid_chip.specs.declared.reaction.Reaction.{Reaction}
+use Rattle.eid_chip.specs.States.{state}
+use Rattle.eid_chip.specs.Steps.{Told, Stepped, state_left, state_due}
+
+-- a coprocessor that was not asked
+pub not_asked : {C : Type 0} (log : C → List Ask) (spare faults : C → ℕ) (told : C → ToldBefore) (copro : C) → WereAsked log spare faults told copro copro []
+not_asked log spare faults told copro = record {
+  logged = sym (append-nil (log copro));
+  spent = omega arith;
+  same_told = refl;
+  later = omega arith;
+  cause = λ met. absurd (cc);
+}
+
+-- the coprocessor stays as it is
+pub unasked : {C : Type 0} (log : C → List Ask) (spare faults : C → ℕ) (told : C → ToldBefore) (copro : C) (kind is : Kind) (kept : FullRecord) (session : Session) (c : PlainCommand) (r : Reaction) → kind ≡ is → ((channel : Option ChannelState) → Told is kept (state session channel) c [] r) → Stepped log spare faults told copro copro kind kept session c r
+unasked log spare faults told copro kind is kept session c r same tells = record {
+  asks = [];
+  were_asked = not_asked log spare faults told copro;
+  tells = λ channel. subst (λ (k : Kind). Told k kept (state session channel) c [] r) (sym same) (tells channel);
+}
+
+-- a GENERAL AUTHENTICATE that the run has not come to is refused
+pub no_step : (kept : FullRecord) (old : State) (c : PlainCommand) (r : Reaction) → r.rule.0 ≡ 9 → plain_reply r.reply ≡ status_alone 0x6985 → state_left r old.channel ≡ state_due 9 (ended_run old) → Told NoStep kept old c [] r
+no_step kept old c r rule reply left = record {
+  asked = refl;
+  ended = rw (rule, reply) refl;
+  left = rw rule (rw rule at left);
+}

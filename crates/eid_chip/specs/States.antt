@@ -1,0 +1,47 @@
+-- The sessions of the code as states.
+use Rattle.std.specs.Prelude.{Option, Some, None, option_map}
+use Rattle.eid_bits.specs.Template.{template_bytes}
+use Rattle.eid_pace.specs.View.{chosen_view, nonce_sent_view, mapped_view, agreed_view}
+use Rattle.eid_sm.specs.Keys.{ChannelState}
+use Rattle.eid_model.specs.declared.kind.Kind.{Kind}
+use Rattle.eid_model.specs.declared.kind.Kind.TheVariants.{EncryptedNonce, MapNonce, PerformKeyAgreement, MutualAuthentication}
+use Rattle.eid_model.specs.Runs.{Phase, Idle, Chose, SentNonce, HasBase, HasSecret}
+use Rattle.eid_model.specs.Sessions.{State, PaceMemory}
+use Rattle.eid_chip.specs.declared.session.Run.{Run}
+use Rattle.eid_chip.specs.declared.session.Run.TheVariants as runs
+use Rattle.eid_chip.specs.declared.session.LastPace.{LastPace}
+use Rattle.eid_chip.specs.declared.session.Session.{Session}
+
+-- the step that comes next, and what later steps need, where a run stands there
+abbrev pub next_of : Run → Option Kind
+next_of runs.Idle = None
+next_of (runs.Chosen chosen) = Some EncryptedNonce
+next_of (runs.NonceSent sent) = Some MapNonce
+next_of (runs.Mapped mapped) = Some PerformKeyAgreement
+next_of (runs.Agreed agreed) = Some MutualAuthentication
+
+abbrev pub phase_of : Run → Phase
+phase_of runs.Idle = Idle
+phase_of (runs.Chosen chosen) = Chose (chosen_view chosen)
+phase_of (runs.NonceSent sent) = SentNonce (nonce_sent_view sent)
+phase_of (runs.Mapped mapped) = HasBase (mapped_view mapped)
+phase_of (runs.Agreed agreed) = HasSecret (agreed_view agreed)
+
+-- what is kept of a PACE
+abbrev pub memory : LastPace → PaceMemory
+memory pace = record { password = pace.password; template = option_map template_bytes pace.template; identity = pace.identity }
+
+-- the state that a session of the code is, with this channel
+abbrev pub state : Session → Option ChannelState → State
+state s channel = record {
+  next = next_of s.run;
+  phase = phase_of s.run;
+  selected = s.memory.selected;
+  current = option_map (λ file. file.0) s.memory.current;
+  pace = option_map memory s.memory.pace;
+  channel = channel;
+}
+
+-- the state without a run
+abbrev pub without_run : State → State
+without_run s = record { next = None; phase = Idle; selected = s.selected; current = s.current; pace = s.pace; channel = s.channel }

@@ -1,0 +1,80 @@
+//! The ends of a step: refused, or carried out.
+ghost use Rattle.std.specs.Prelude.{◌≡◌, ◌≤◌, Option, None};
+ghost use Rattle.arrayvec.specs.ArrayVec.{array_vec_len};
+ghost use Rattle.eid_apdu.specs.Answer.{plain_reply};
+ghost use Rattle.eid_model.specs.Answers.{status_alone};
+ghost use Rattle.eid_model.specs.Moments.{ends_session_by};
+ghost use Rattle.eid_model.specs.Sessions.{ended_run};
+ghost use Rattle.eid_sm.specs.Keys.{ChannelState};
+ghost use Rattle.eid_chip.specs.States.{state};
+ghost use Rattle.eid_chip.specs.Steps.{state_left, state_due};
+
+use crate::reaction::Reaction;
+use crate::refusal::Refusal;
+use crate::session::Session;
+use arrayvec::ArrayVec;
+use eid_apdu::Reply;
+use eid_base::{Rule, Status};
+
+/// A reply without data.
+fn status_reply(status: Status) -> Reply
+    ensures plain { plain_reply result ≡ status_alone status.0 }
+    ensures small { array_vec_len result.content ≤ 2048 }
+{
+    Reply {
+        content: ArrayVec::new(),
+        status,
+    }
+}
+
+/// Whether a refusal by this rule ends the session: objects of secure messaging that are missing or
+/// wrong, and a fault of the coprocessor.
+pub fn ends_session(rule: Rule) -> bool
+    ensures { result ≡ ends_session_by rule.0 }
+{
+    rule.0 == 2 || rule.0 == 3 || rule.0 == 50
+}
+
+/// A command that is refused ends the run, and by some rules the session.
+pub fn refused(refusal: Refusal, session: Session) -> Reaction
+    ensures rule { result.rule ≡ refusal.rule }
+    ensures reply { plain_reply result.reply ≡ status_alone refusal.status.0 }
+    ensures left { (channel : Option ChannelState) → state_left result channel ≡ state_due refusal.rule.0 (ended_run (state session channel)) }
+{
+    let session = if ends_session(refusal.rule) {
+        Session::new()
+    } else {
+        session.without_run()
+    };
+    Reaction {
+        rule: refusal.rule,
+        reply: status_reply(refusal.status),
+        session,
+        opened: None,
+    }
+}
+
+/// A command that is carried out and answers no data.
+pub fn carried_out(session: Session) -> Reaction
+    ensures { (result.rule.0 ≡ 0) × (plain_reply result.reply ≡ status_alone 0x9000) × (result.session ≡ session) × (result.opened ≡ None) }
+{
+    Reaction {
+        rule: Rule(0),
+        reply: status_reply(Status(0x9000)),
+        session,
+        opened: None,
+    }
+}
+
+/// A command that is carried out, and answers data.
+pub fn answered(reply: Reply, session: Session) -> Reaction
+    requires { array_vec_len reply.content ≤ 2048 }
+    ensures { (result.rule.0 ≡ 0) × (result.reply ≡ reply) × (result.session ≡ session) × (result.opened ≡ None) }
+{
+    Reaction {
+        rule: Rule(0),
+        reply,
+        session,
+        opened: None,
+    }
+}

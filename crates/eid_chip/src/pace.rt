@@ -1,0 +1,232 @@
+//! PACE (BSI TR-03110-2 and TR-03110-3): its selection and its four steps.
+ghost use Rattle.std.specs.Prelude.{◌≡◌, ◌≤◌, ◌++◌, [], Option, Some};
+ghost use Rattle.arrayvec.specs.ArrayVec.{array_vec_len};
+ghost use Rattle.eid_apdu.specs.Answer.{plain_reply};
+ghost use Rattle.eid_record.specs.View.{record_view};
+ghost use Rattle.eid_tlv.specs.Objects.{object};
+ghost use Rattle.eid_model.specs.Answers.{data_alone, previous_name};
+ghost use Rattle.eid_apdu.specs.Command.{plain_command};
+ghost use Rattle.eid_record.specs.Plain.{FullRecord};
+ghost use Rattle.eid_sm.specs.Keys.{ChannelState};
+ghost use Rattle.eid_store.specs.Store as stored;
+ghost use Rattle.eid_chip.specs.Held.{held};
+ghost use Rattle.eid_pace.specs.View.{done_view};
+ghost use Rattle.eid_model.specs.Sessions.{channel_after, memory_of};
+ghost use Rattle.eid_chip.specs.States.{memory, next_of, state};
+ghost use Rattle.eid_chip.specs.Steps.{Stepped, Told};
+
+use crate::authentication::{append, data_reply, is_no_data, point_in, reply_in_data, token_in};
+use crate::ending::{answered, carried_out, refused};
+use crate::reaction::Reaction;
+use crate::refusal::{BODY_FORM, FAULT, NO_PASSWORD, NO_POINT, NO_STEP, SAME_POINT, WRONG_TOKEN};
+use crate::session::{LastPace, Memory, Run, Session, idle};
+use arrayvec::ArrayVec;
+use eid_apdu::{Command, Reply};
+use eid_base::Rule;
+use eid_cells::Eeprom;
+use eid_copro::Coprocessor;
+use eid_model::Kind;
+use eid_pace::{Chosen, Done};
+use eid_record::Record;
+use eid_sm::Channel;
+use eid_store::Store;
+
+/// MSE:Set AT for PACE: a run begins with the password and the template that were chosen. Rule 10 is a body
+/// of another form, rule 11 a reference that is not the CAN's.
+pub fn select_pace(session: Session, c: &Command<'_>) -> Reaction
+    ensures { (kept : FullRecord) (channel : Option ChannelState) → Told Kind.SelectPace kept (state session channel) (plain_command c.now) [] result }
+{
+    match Chosen::select(c.body) {
+        Ok(chosen) => carried_out(Session {
+            run: Run::Chosen(chosen),
+            memory: session.memory,
+        }),
+        Err(Rule(10)) => refused(BODY_FORM, session),
+        Err(_) => refused(NO_PASSWORD, session),
+    }
+}
+
+/// The first step: a nonce is drawn, and sent encrypted in 80. Rule 10 is a body other than the empty 7C,
+/// rule 50 a fault of the coprocessor.
+pub fn encrypted_nonce<E: Eeprom, C: Coprocessor>(
+    session: Session,
+    store: &Store,
+    cells: &E,
+    copro: &mut C,
+    c: &Command<'_>,
+) -> Reaction
+    requires fits { stored.Fits store.now (E.device cells.now) (E.cells cells.now) }
+    requires room { 2 ≤ C.spare copro.old }
+    requires turn { next_of session.run ≡ Some Kind.EncryptedNonce }
+    ensures { Stepped C.log C.spare C.faults C.told copro.old copro.new Kind.EncryptedNonce (held (E.cells cells.now)) session (plain_command c.now) result }
+{
+    let _ = cells;
+    if !is_no_data(c.body) {
+        return refused(BODY_FORM, session);
+    }
+    let Session { run, memory } = session;
+    let Run::Chosen(chosen) = run else {
+        return refused(NO_STEP, idle(memory));
+    };
+    match chosen.send_nonce(store.kept(), false, copro) {
+        Ok(given) => {
+            let (sent, encrypted) = given;
+            answered(
+                data_reply(0x80, &encrypted),
+                Session {
+                    run: Run::NonceSent(sent),
+                    memory,
+                },
+            )
+        }
+        Err(_) => refused(FAULT, idle(memory)),
+    }
+}
+
+/// The second step: the nonce is mapped to a base with the terminal's point in 81, and the chip's point is
+/// sent in 82. Rule 10 is a body of another form, rule 50 a fault of the coprocessor, rule 52 that the
+/// mapping is no point.
+pub fn map_nonce<C: Coprocessor>(session: Session, copro: &mut C, c: &Command<'_>) -> Reaction
+    requires room { 2 ≤ C.spare copro.old }
+    requires turn { next_of session.run ≡ Some Kind.MapNonce }
+    ensures { (kept : FullRecord) → Stepped C.log C.spare C.faults C.told copro.old copro.new Kind.MapNonce kept session (plain_command c.now) result }
+{
+    let Some(peer) = point_in(c.body, 0x81) else {
+        return refused(BODY_FORM, session);
+    };
+    let Session { run, memory } = session;
+    let Run::NonceSent(sent) = run else {
+        return refused(NO_STEP, idle(memory));
+    };
+    match sent.map(&peer, copro) {
+        Ok(given) => {
+            let (mapped, public) = given;
+            answered(
+                data_reply(0x82, &public),
+                Session {
+                    run: Run::Mapped(mapped),
+                    memory,
+                },
+            )
+        }
+        Err(Rule(52)) => refused(NO_POINT, idle(memory)),
+        Err(_) => refused(FAULT, idle(memory)),
+    }
+}
+
+/// The third step: a secret is agreed with the terminal's ephemeral point in 83, and the chip's is sent in 84.
+/// Rule 10 is a body of another form, rule 50 a fault of the coprocessor, rule 51 that both points are the
+/// same, rule 52 that what was agreed is no point.
+pub fn perform_key_agreement<C: Coprocessor>(
+    session: Session,
+    copro: &mut C,
+    c: &Command<'_>,
+) -> Reaction
+    requires room { 2 ≤ C.spare copro.old }
+    requires turn { next_of session.run ≡ Some Kind.PerformKeyAgreement }
+    ensures { (kept : FullRecord) → Stepped C.log C.spare C.faults C.told copro.old copro.new Kind.PerformKeyAgreement kept session (plain_command c.now) result }
+{
+    let Some(peer) = point_in(c.body, 0x83) else {
+        return refused(BODY_FORM, session);
+    };
+    let Session { run, memory } = session;
+    let Run::Mapped(mapped) = run else {
+        return refused(NO_STEP, idle(memory));
+    };
+    match mapped.agree(&peer, copro) {
+        Ok(given) => {
+            let (agreed, public) = given;
+            answered(
+                data_reply(0x84, &public),
+                Session {
+                    run: Run::Agreed(agreed),
+                    memory,
+                },
+            )
+        }
+        Err(Rule(51)) => refused(SAME_POINT, idle(memory)),
+        Err(Rule(52)) => refused(NO_POINT, idle(memory)),
+        Err(_) => refused(FAULT, idle(memory)),
+    }
+}
+
+/// What the last reply holds in 7C: the chip's token in 86, and in 87 and 88 the names of the trust points.
+fn token_content(token: &[u8; 8], kept: &Record) -> ArrayVec<u8, 64>
+    ensures items { result.items ≡ object 0x86 token.now ++ object 0x87 (record_view kept.now).current.name ++ previous_name (record_view kept.now).previous }
+    ensures size { array_vec_len result ≤ 64 }
+{
+    let mut content = ArrayVec::new();
+    append(&mut content, 0x86, token);
+    append(&mut content, 0x87, kept.current.name.as_slice());
+    if let Some(previous) = &kept.previous {
+        append(&mut content, 0x88, previous.name.as_slice());
+    }
+    content
+}
+
+/// The last reply.
+fn token_reply(token: &[u8; 8], kept: &Record) -> Reply
+    ensures plain { plain_reply result ≡ data_alone (object 0x7C (object 0x86 token.now ++ object 0x87 (record_view kept.now).current.name ++ previous_name (record_view kept.now).previous)) }
+    ensures small { array_vec_len result.content ≤ 2048 }
+{
+    let inner = token_content(token, kept);
+    reply_in_data(inner.as_slice())
+}
+
+/// What is kept of a PACE.
+fn last_pace(done: &Done) -> LastPace
+    ensures { memory result ≡ memory_of (done_view done.now) }
+{
+    let identity = done.identity;
+    LastPace {
+        password: done.password,
+        template: done.template,
+        identity,
+    }
+}
+
+/// The channel that a PACE opens.
+fn channel_of(done: &Done) -> Channel
+    ensures { result ≡ channel_after 0 (done_view done.now) }
+{
+    let enc = done.enc;
+    let mac = done.mac;
+    Channel::new(enc, mac)
+}
+
+/// The last step: the terminal's token in 85 is compared, the chip's is sent in 86 with the names of the trust
+/// points in 87 and 88, and the channel is opened. Rule 10 is a body of another form, rule 55 that the
+/// token is wrong.
+pub fn mutual_authentication<E: Eeprom>(
+    session: Session,
+    store: &Store,
+    cells: &E,
+    c: &Command<'_>,
+) -> Reaction
+    requires fits { stored.Fits store.now (E.device cells.now) (E.cells cells.now) }
+    requires turn { next_of session.run ≡ Some Kind.MutualAuthentication }
+    ensures { (channel : Option ChannelState) → Told Kind.MutualAuthentication (held (E.cells cells.now)) (state session channel) (plain_command c.now) [] result }
+{
+    let _ = cells;
+    let Some(token) = token_in(c.body) else {
+        return refused(BODY_FORM, session);
+    };
+    let Session { run, memory } = session;
+    let Run::Agreed(agreed) = run else {
+        return refused(NO_STEP, idle(memory));
+    };
+    let Ok(given) = agreed.check(&token, None) else {
+        return refused(WRONG_TOKEN, idle(memory));
+    };
+    let (done, own_token) = given;
+    Reaction {
+        rule: Rule(0),
+        reply: token_reply(&own_token, store.kept()),
+        session: idle(Memory {
+            selected: memory.selected,
+            current: memory.current,
+            pace: Some(last_pace(&done)),
+        }),
+        opened: Some(channel_of(&done)),
+    }
+}

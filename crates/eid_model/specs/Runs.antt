@@ -1,0 +1,93 @@
+-- Runs: a selection and the steps that follow it, each directly behind the one before (BSI TR-03110-3). A run is a
+-- list of steps with the newest first.
+use Rattle.std.specs.Prelude.{ℕ, List, [], ◌∷◌, map, Option, Some, None, option_and_then, if◌then◌else◌}
+use Rattle.eid_apdu.specs.Command.{PlainCommand}
+use Rattle.eid_copro.specs.declared.ask.Ask.{Ask}
+use Rattle.eid_copro.specs.declared.ask.Answer.{Answer}
+use Rattle.eid_copro.specs.declared.ask.Answer.TheVariants as answers
+use Rattle.eid_pace.specs.States.{PlainChoice, PlainNonceSent, PlainMapped, PlainAgreed}
+use Rattle.eid_pace.specs.Selections.{chosen_by}
+use Rattle.eid_pace.specs.SelectionIn.{selection_in}
+use Rattle.std.specs.Result.{result_ok}
+use Rattle.eid_model.specs.declared.kind.Kind.{Kind}
+use Rattle.eid_model.specs.declared.kind.Kind.TheVariants.{SelectPace, EncryptedNonce, MapNonce, PerformKeyAgreement}
+use Rattle.eid_model.specs.Kinds.{kind_named, step_after, begins_run, goes_on_in_run}
+use Rattle.eid_model.specs.Moments.{PlainMoment, succeeded}
+use Rattle.eid_model.specs.Bodies.{data_in}
+
+abbrev pub answers_of : List Ask → List Answer
+answers_of asks = map (λ (ask : Ask). ask.answer) asks
+
+-- A step: its kind, the command, and what the coprocessor answered.
+pub record Step : Type 0 where
+  pub kind : Kind
+  pub command : PlainCommand
+  pub answers : List Answer
+
+-- the kind that the moment carried out, where it succeeded and this step came next in the run
+abbrev pub done : Option Kind → PlainMoment → Option Kind
+done next m = if succeeded m then option_and_then (kind_named next) m.plain else None
+
+-- the step that comes next in a run
+abbrev pub next : List Step → Option Kind
+next [] = None
+next (step ∷ before) = step_after step.kind
+
+-- the run after a moment that carried out this kind, or none
+abbrev pub continued : Option Kind → Option PlainCommand → List Answer → List Step → List Step
+continued None plain answers run = []
+continued (Some kind) None answers run = []
+continued (Some kind) (Some c) answers run =
+    if begins_run kind then record { kind = kind; command = c; answers = answers } ∷ []
+    else if goes_on_in_run kind then record { kind = kind; command = c; answers = answers } ∷ run
+    else []
+
+abbrev pub run : List PlainMoment → List Step
+run [] = []
+run (m ∷ before) = continued (done (next (run before)) m) m.plain (answers_of m.asks) (run before)
+
+-- What later steps need of a run.
+pub data Phase : Type 0 where
+  -- there is no run
+  Idle : Phase
+  -- a password was chosen for PACE
+  Chose : PlainChoice → Phase
+  -- the nonce was sent
+  SentNonce : PlainNonceSent → Phase
+  -- the nonce was mapped to a base
+  HasBase : PlainMapped → Phase
+  -- the ephemeral points gave a secret
+  HasSecret : PlainAgreed → Phase
+
+abbrev pub as_chosen : Option PlainChoice → Phase
+as_chosen None = Idle
+as_chosen (Some choice) = Chose choice
+
+-- what a selection chose
+abbrev pub choice_in : List ℕ → Option PlainChoice
+choice_in body = result_ok (chosen_by (selection_in body))
+
+abbrev pub with_nonce : List Answer → Phase → Phase
+with_nonce (answers.Nonce nonce ∷ []) (Chose choice) = SentNonce (record { choice = choice; nonce = nonce })
+with_nonce answers before = Idle
+
+abbrev pub with_base : List Answer → Phase → Phase
+with_base (answers.Pair secret public ∷ answers.Mapped base ∷ []) (SentNonce sent) = HasBase (record { choice = sent.choice; base = base })
+with_base answers before = Idle
+
+abbrev pub with_secret : List ℕ → List Answer → Phase → Phase
+with_secret peer (answers.Pair secret public ∷ answers.Shared shared ∷ []) (HasBase mapped) =
+    HasSecret (record { choice = mapped.choice; chip_point = public; terminal_point = peer; shared = shared })
+with_secret peer answers before = Idle
+
+-- what a step adds to what later steps need
+unfoldable pub entered : Kind → PlainCommand → List Answer → Phase → Phase
+entered SelectPace c answers before = as_chosen (choice_in c.body)
+entered EncryptedNonce c answers before = with_nonce answers before
+entered MapNonce c answers before = with_base answers before
+entered PerformKeyAgreement c answers before = with_secret (data_in c.body) answers before
+entered kind c answers before = Idle
+
+abbrev pub phase : List Step → Phase
+phase [] = Idle
+phase (step ∷ before) = entered step.kind step.command step.answers (phase before)
