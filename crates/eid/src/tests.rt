@@ -78,6 +78,23 @@ fn words(rt: &HostRuntime, all: &[&str]) -> Result<Vec<String>, AllocError> {
     Ok(words)
 }
 
+/// A folder with these files, whose listed calls fail.
+fn folder_of(
+    rt: &HostRuntime,
+    files: &[(&str, &[u8])],
+    fail: &[u32],
+) -> Result<MemoryFolder, AllocError> {
+    let alloc = rt.alloc();
+    let mut all = Vec::new(alloc);
+    for (name, bytes) in files {
+        all.push((
+            String::from_str(alloc, name)?,
+            Vec::from_slice(alloc, bytes)?,
+        ))?;
+    }
+    Ok(MemoryFolder::new(alloc, all, Vec::from_slice(alloc, fail)?))
+}
+
 /// A folder with an image `a` and a script `s`, whose listed calls fail.
 fn folder(
     rt: &HostRuntime,
@@ -85,17 +102,7 @@ fn folder(
     script: &[u8],
     fail: &[u32],
 ) -> Result<MemoryFolder, AllocError> {
-    let alloc = rt.alloc();
-    let mut files = Vec::new(alloc);
-    files.push((
-        String::from_str(alloc, "a")?,
-        Vec::from_slice(alloc, image)?,
-    ))?;
-    files.push((
-        String::from_str(alloc, "s")?,
-        Vec::from_slice(alloc, script)?,
-    ))?;
-    Ok(MemoryFolder::new(alloc, files, Vec::from_slice(alloc, fail)?))
+    folder_of(rt, &[("a", image), ("s", script)], fail)
 }
 
 /// Whether `run a s 0` over these files ends so, writes this, and leaves both files.

@@ -1,5 +1,5 @@
 //! Making and showing images.
-use super::{holds, image, image_but, image_of_size, words};
+use super::{folder_of, holds, image, image_but, image_of_size, words};
 use crate::exit::Exit;
 use crate::program::program;
 use eid_base::{MemoryFolder, MemorySink};
@@ -66,11 +66,7 @@ fn config(rt: &HostRuntime, without: &[&str], more: &str) -> Result<Vec<u8>, All
 
 /// A folder with these files `a` and `b`, whose listed calls fail.
 fn folder(rt: &HostRuntime, a: &[u8], b: &[u8], fail: &[u32]) -> Result<MemoryFolder, AllocError> {
-    let alloc = rt.alloc();
-    let mut files = Vec::new(alloc);
-    files.push((String::from_str(alloc, "a")?, Vec::from_slice(alloc, a)?))?;
-    files.push((String::from_str(alloc, "b")?, Vec::from_slice(alloc, b)?))?;
-    Ok(MemoryFolder::new(alloc, files, Vec::from_slice(alloc, fail)?))
+    folder_of(rt, &[("a", a), ("b", b)], fail)
 }
 
 /// Whether these words over this folder end so, and print this.

@@ -1,6 +1,6 @@
 //! PACE with the CAN, and the channel that it opens.
 use super::traces::*;
-use super::{answers, holds, image, words};
+use super::{answers, folder_of, holds, image, words};
 use crate::exit::Exit;
 use crate::program::program;
 use eid_base::{MemoryFolder, MemorySink};
@@ -55,23 +55,6 @@ pub fn plays(
             && holds(&files, "s", script.as_bytes())
             && holds(&files, "w", told.as_bytes()),
     )
-}
-
-/// A folder with these files, whose listed calls fail.
-fn folder_of(
-    rt: &HostRuntime,
-    files: &[(&str, &[u8])],
-    fail: &[u32],
-) -> Result<MemoryFolder, AllocError> {
-    let alloc = rt.alloc();
-    let mut all = Vec::new(alloc);
-    for (name, bytes) in files {
-        all.push((
-            String::from_str(alloc, name)?,
-            Vec::from_slice(alloc, bytes)?,
-        ))?;
-    }
-    Ok(MemoryFolder::new(alloc, all, Vec::from_slice(alloc, fail)?))
 }
 
 /// What these words come to over an image `a`, a script `s` and answers `w`, in a folder whose listed
