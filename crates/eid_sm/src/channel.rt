@@ -47,6 +47,22 @@ pub struct Header {
     pub ne: u32,
 }
 
+impl Header {
+    /// The plain command with this body.
+    pub fn with_body<'a>(&self, body: &'a [u8]) -> Command<'a>
+        ensures { plain_command result ≡ plain_of self.now body.now }
+    {
+        Command {
+            cla: self.cla,
+            ins: self.ins,
+            p1: self.p1,
+            p2: self.p2,
+            body,
+            ne: self.ne,
+        }
+    }
+}
+
 /// The state of secure messaging: the keys for encryption and for the code, expanded once, and the
 /// counter of the last message. A contract sees the keys' bytes and the counter as a number.
 #[derive(Drop)]
