@@ -2,7 +2,7 @@
 use Rattle.std.proofs.Common.{◌≡◌, ◌∙◌, ap, Bool, true, false, [], ◌++◌, Option, None, Some, refl}
 use Rattle.std.specs.Prelude.{option_map, is_none, if◌then◌else◌}
 use Rattle.eid_apdu.specs.Command.{PlainCommand}
-use Rattle.eid_apdu.specs.Answer.{plain_reply}
+use Rattle.eid_apdu.specs.Answer.{PlainReply}
 use Rattle.eid_copro.specs.declared.ask.Question.{Question}
 use Rattle.eid_record.specs.Plain.{FullRecord}
 use Rattle.eid_sm.specs.Keys.{ChannelState}
@@ -31,8 +31,8 @@ idle_state s m channel run kept =
     rw (phase, next, kept) refl
 
 -- a command of a kind without questions that fails no rule
-pub carried : (kind : Kind) (kept : FullRecord) (old : State) (c : PlainCommand) (r : Reaction) → question_of (Some kind) (known kind kept old c []) ≡ None → first_failed (kind_rules ++ answer_rules ++ proof_rules) (known kind kept old c []) ≡ None → r.rule.0 ≡ 0 → r.opened ≡ None → plain_reply r.reply ≡ success_of kind (known kind kept old c []) → state r.session (option_map two_messages_later old.channel) ≡ advanced kind c [] old → Told kind kept old c [] r
-carried kind kept old c r silent passes rule opened reply left = record {
+pub carried : (kind : Kind) (kept : FullRecord) (old : State) (c : PlainCommand) (r : Reaction) (reply : PlainReply) → question_of (Some kind) (known kind kept old c []) ≡ None → first_failed (kind_rules ++ answer_rules ++ proof_rules) (known kind kept old c []) ≡ None → r.rule.0 ≡ 0 → r.opened ≡ None → reply ≡ success_of kind (known kind kept old c []) → state r.session (option_map two_messages_later old.channel) ≡ advanced kind c [] old → Told kind kept old c [] r reply
+carried kind kept old c r reply silent passes rule opened answered left = record {
   asked = unasked_at (is_none (first_failed (kind_rules ++ answer_rules) (known kind kept old c []))) _ silent;
   ended = ap (λ (f : Option RuleRow). outcome_by f (known kind kept old c [])) passes ∙ cc;
   left = rw (rule, opened) left;

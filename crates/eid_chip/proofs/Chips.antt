@@ -3,7 +3,7 @@ use Rattle.std.proofs.Common.{◌≡◌, ℕ, Bool, true, false, ◌==◌, ◌||
 use Rattle.std.specs.Prelude.{is_some, option_map, if◌then◌else◌}
 use Rattle.std.specs.Option.{option_or}
 use Rattle.eid_apdu.specs.Command.{PlainCommand}
-use Rattle.eid_apdu.specs.Answer.{PlainReply, plain_reply, spelled}
+use Rattle.eid_apdu.specs.Answer.{PlainReply, spelled}
 use Rattle.eid_cells.specs.Device.{Device}
 use Rattle.eid_copro.specs.declared.ask.Ask.{Ask}
 use Rattle.eid_record.specs.Plain.{FullRecord}
@@ -46,14 +46,14 @@ kept_channel (Some ch) opened rule = by (rule == 2) (rule == 3) where
   by false false = refl
 
 -- the moment of a response
-abbrev pub moment_by : List ℕ → Option PlainCommand → List Ask → Reaction → List ℕ → PlainMoment
-moment_by bytes plain asks r sent = record {
+abbrev pub moment_by : List ℕ → Option PlainCommand → List Ask → Reaction → PlainReply → List ℕ → PlainMoment
+moment_by bytes plain asks r reply sent = record {
   input = Received bytes;
   plain = plain;
   asks = asks;
   finished = 0;
   rule = r.rule.0;
-  answer = Some (plain_reply r.reply);
+  answer = Some reply;
   sent = Some sent;
 }
 
@@ -61,21 +61,21 @@ abbrev pub running_on : Running → Reaction → Option ChannelState → Running
 running_on running r channel = record { store = running.store; session = r.session; channel = channel }
 
 -- a chip with power that responded makes a legal moment, and fits the journal with it
-pub chip_responds : (chip : Chip) (running : Running) (device : Device) (cells : List ℕ) (bytes : List ℕ) (heard : Heard) (plain : Option PlainCommand) (asks : List Ask) (r : Reaction) (sent : List ℕ) (left : Option ChannelState) → chip.life ≡ Some running
-    → sent ≡ sent_in running.channel r.rule.0 (plain_reply r.reply) → left ≡ channel_left r running.channel → IsHeard running.channel bytes heard → plain ≡ plain_of heard
-    → Answers (held cells) (state running.session running.channel) heard asks r → (opening : FullRecord) (before : List PlainMoment) → Fits chip device cells opening before
-    → IsHandled opening before bytes (moment_by bytes plain asks r sent) × Fits (record { life = Some (running_on running r left) }) device cells opening (moment_by bytes plain asks r sent ∷ before)
-chip_responds chip running device cells bytes heard plain asks r sent left alive written kept hears plain_is answers opening before fits =
+pub chip_responds : (chip : Chip) (running : Running) (device : Device) (cells : List ℕ) (bytes : List ℕ) (heard : Heard) (plain : Option PlainCommand) (asks : List Ask) (r : Reaction) (reply : PlainReply) (sent : List ℕ) (left : Option ChannelState) → chip.life ≡ Some running
+    → sent ≡ sent_in running.channel r.rule.0 reply → left ≡ channel_left r running.channel → IsHeard running.channel bytes heard → plain ≡ plain_of heard
+    → Answers (held cells) (state running.session running.channel) heard asks r reply → (opening : FullRecord) (before : List PlainMoment) → Fits chip device cells opening before
+    → IsHandled opening before bytes (moment_by bytes plain asks r reply sent) × Fits (record { life = Some (running_on running r left) }) device cells opening (moment_by bytes plain asks r reply sent ∷ before)
+chip_responds chip running device cells bytes heard plain asks r reply sent left alive written kept hears plain_is answers opening before fits =
     let power : on before ≡ true = sym fits.powered ∙ ap is_some alive in
     let living : state running.session running.channel ≡ state_of (live before) = subst (λ (l : Option Running). HasState l before) alive fits.living in
     let is : held cells ≡ opening = held_is cells opening fits.standing in
-    let so = subst (λ (k : FullRecord). Answers k (state running.session running.channel) heard asks r) is answers in
-    let done = responded (state running.session running.channel) opening before bytes heard asks r power living hears so in
+    let so = subst (λ (k : FullRecord). Answers k (state running.session running.channel) heard asks r reply) is answers in
+    let done = responded (state running.session running.channel) opening before bytes heard asks r reply power living hears so in
     let sound : IsSoundLife (Some running) device cells = subst (λ (l : Option Running). IsSoundLife l device cells) alive fits.sound in
     let left_so : state r.session left ≡ state_left r running.channel = ap (λ (c : Option ChannelState). state r.session c) kept in
-    let same : answered running.channel bytes heard asks (outcome_seen r) ≡ moment_by bytes plain asks r sent =
-    ap (λ (p : Option PlainCommand). moment_by bytes p asks r (sent_in running.channel r.rule.0 (plain_reply r.reply))) (sym plain_is)
-    ∙ ap (λ (s : List ℕ). moment_by bytes plain asks r s) (sym written) in
+    let same : answered running.channel bytes heard asks (outcome_seen r reply) ≡ moment_by bytes plain asks r reply sent =
+    ap (λ (p : Option PlainCommand). moment_by bytes p asks r reply (sent_in running.channel r.rule.0 reply)) (sym plain_is)
+    ∙ ap (λ (s : List ℕ). moment_by bytes plain asks r reply s) (sym written) in
     subst (λ (m : PlainMoment). IsHandled opening before bytes m × Fits (record { life = Some (running_on running r left) }) device cells opening (m ∷ before)) same
     (done.0, record { powered = sym done.1; sound = sound; living = left_so ∙ done.2; standing = fits.standing })
 

@@ -17,6 +17,7 @@ use Rattle.eid_model.specs.Sessions.{State, PaceMemory, state_of, fresh, selects
 use Rattle.eid_model.specs.Rules.{Heard, NoCommand, MissingObjects, WrongObjects, Command}
 use Rattle.eid_model.specs.Answers.{Outcome, outcome, question, situation, kind_heard, command_of, state_answered}
 use Rattle.eid_model.specs.Legal.{IsHeard, AreAsked, IsHandled, answered, situation_after}
+use Rattle.eid_apdu.specs.Answer.{PlainReply}
 use Rattle.eid_chip.specs.declared.reaction.Reaction.{Reaction}
 use Rattle.eid_chip.specs.Steps.{Answers, outcome_seen, state_left, state_due}
 
@@ -139,17 +140,17 @@ live_more false rule m before new is lives states =
     ap (λ (b : Bool). if b then fresh else new) is ∙ sym states ∙ sym (ap state_of (lives ∙ ap (λ (b : Bool). if not (not b) then [] else m ∷ live before) is))
 
 -- a command that was answered by the rules makes a legal moment, after which the state is that of the live moments
-pub responded : (old : State) (opening : FullRecord) (before : List PlainMoment) (bytes : List ℕ) (heard : Heard) (asks : List Ask) (r : Reaction) → on before ≡ true → old ≡ state_of (live before) → IsHeard old.channel bytes heard → Answers opening old heard asks r
-    → IsHandled opening before bytes (answered old.channel bytes heard asks (outcome_seen r))
-    × (on (answered old.channel bytes heard asks (outcome_seen r) ∷ before) ≡ true)
-    × (state_left r old.channel ≡ state_of (live (answered old.channel bytes heard asks (outcome_seen r) ∷ before)))
-responded old opening before bytes heard asks r power is hears answers =
-    let m : PlainMoment = answered old.channel bytes heard asks (outcome_seen r) in
+pub responded : (old : State) (opening : FullRecord) (before : List PlainMoment) (bytes : List ℕ) (heard : Heard) (asks : List Ask) (r : Reaction) (reply : PlainReply) → on before ≡ true → old ≡ state_of (live before) → IsHeard old.channel bytes heard → Answers opening old heard asks r reply
+    → IsHandled opening before bytes (answered old.channel bytes heard asks (outcome_seen r reply))
+    × (on (answered old.channel bytes heard asks (outcome_seen r reply) ∷ before) ≡ true)
+    × (state_left r old.channel ≡ state_of (live (answered old.channel bytes heard asks (outcome_seen r reply) ∷ before)))
+responded old opening before bytes heard asks r reply power is hears answers =
+    let m : PlainMoment = answered old.channel bytes heard asks (outcome_seen r reply) in
     let same_channel : old.channel ≡ channel (live before) = ap (λ (s : State). s.channel) is in
-    let ends : outcome (situation_after opening before heard (answers_of asks)) ≡ outcome_seen r =
+    let ends : outcome (situation_after opening before heard (answers_of asks)) ≡ outcome_seen r reply =
     ap (λ (s : State). outcome (situation opening s heard (answers_of asks))) (sym is) ∙ answers.ended in
     let next_state : state_of (m ∷ live before) ≡ state_answered r.rule.0 (kind_heard old heard) (command_of heard) (answers_of asks) old =
-    state_more old.channel bytes heard asks (outcome_seen r) (live before)
+    state_more old.channel bytes heard asks (outcome_seen r reply) (live before)
     ∙ ap (λ (s : State). state_answered r.rule.0 (kind_heard s heard) (command_of heard) (answers_of asks) s) (sym is) in (
       record {
         powered = λ on_is. record {

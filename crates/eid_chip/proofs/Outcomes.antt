@@ -3,7 +3,7 @@ use Rattle.std.proofs.Common.{◌≡◌, ℕ, ◌<◌, ◌≤◌, Bool, true, fa
 use Rattle.std.specs.Prelude.{if◌then◌else◌, is_none, nat_le, option_map}
 use Rattle.std.proofs.lemmas.Bool.Decides.{nat_tests}
 use Rattle.eid_apdu.specs.Command.{PlainCommand}
-use Rattle.eid_apdu.specs.Answer.{plain_reply}
+use Rattle.eid_apdu.specs.Answer.{PlainReply}
 use Rattle.eid_copro.specs.declared.ask.Ask.{Ask}
 use Rattle.eid_copro.specs.declared.ask.Question.{Question}
 use Rattle.eid_copro.specs.declared.ask.Answer.{Answer}
@@ -86,11 +86,11 @@ asked_alike f g same given (ask ∷ later) asked =
     (sym (same given) ∙ asked.0, asked.1, asked_alike f g same (given ++ ask.answer ∷ []) later asked.2)
 
 -- a command of a known kind, in a request that can be answered, is answered by the rules of its kind
-pub told_answers : (kept : FullRecord) (old : State) (c : PlainCommand) (kind : Kind) (asks : List Ask) (r : Reaction) → kind_named old.next c ≡ Some kind
+pub told_answers : (kept : FullRecord) (old : State) (c : PlainCommand) (kind : Kind) (asks : List Ask) (r : Reaction) (reply : PlainReply) → kind_named old.next c ≡ Some kind
     → ((answers : List Answer) → refusal_by naming_rules (heard_command kept old c answers) ≡ None)
     → ((answers : List Answer) → refusal_by request_rules (heard_command kept old c answers) ≡ None)
-    → Told kind kept old c asks r → Answers kept old (Command c) asks r
-told_answers kept old c kind asks r named names requests told = record {
+    → Told kind kept old c asks r reply → Answers kept old (Command c) asks r reply
+told_answers kept old c kind asks r reply named names requests told = record {
   asked = asked_alike (λ answers. question_by kind_rules (known kind kept old c answers)) (λ answers. question (heard_command kept old c answers))
       (λ answers. sym (kind_question kept old c kind answers named (names answers) (requests answers))) [] asks told.asked;
   ended = kind_outcome kept old c kind (answers_of asks) named (names (answers_of asks)) (requests (answers_of asks)) ∙ told.ended;
@@ -124,8 +124,8 @@ command_rule kept old c answers o is =
     ap (λ (x : Outcome). is_on_objects x.rule) (sym is) ∙ ap (λ (f : Option RuleRow). is_on_objects (outcome_by f s).rule) found
     ∙ rule_of later s (refl, (refl, (refl, (refl, (refl, (refl, (refl, (refl, (refl, (refl, (refl, (refl, (refl, (refl, (refl, (refl, (refl, _)))))))))))))))))
 
-pub command_answered : (kept : FullRecord) (old : State) (c : PlainCommand) (asks : List Ask) (r : Reaction) → Answers kept old (Command c) asks r → is_on_objects r.rule.0 ≡ false
-command_answered kept old c asks r answers = command_rule kept old c (answers_of asks) (outcome_seen r) answers.ended
+pub command_answered : (kept : FullRecord) (old : State) (c : PlainCommand) (asks : List Ask) (r : Reaction) (reply : PlainReply) → Answers kept old (Command c) asks r reply → is_on_objects r.rule.0 ≡ false
+command_answered kept old c asks r reply answers = command_rule kept old c (answers_of asks) (outcome_seen r reply) answers.ended
 
 -- the outcome of a refusal
 abbrev pub refused_so : PlainRefusal → Outcome
@@ -141,14 +141,14 @@ refused_state rule None c answers old e = refl
 refused_state rule (Some kind) c answers old e = if_not (rule == 0) (advanced kind c answers old) (ended_run old) e
 
 -- a refusal puts no question, and is the answer
-pub refused_answers : (rows more later : List RuleRow) (kept : FullRecord) (old : State) (heard : Heard) (refused : PlainRefusal) (r : Reaction) → refusal_by rows (situation kept old heard []) ≡ Some refused
+pub refused_answers : (rows more later : List RuleRow) (kept : FullRecord) (old : State) (heard : Heard) (refused : PlainRefusal) (r : Reaction) (reply : PlainReply) → refusal_by rows (situation kept old heard []) ≡ Some refused
     → question (situation kept old heard []) ≡ (if is_none (first_failed (rows ++ more) (situation kept old heard [])) then question_of (situation kept old heard []).kind (situation kept old heard []) else None)
     → outcome (situation kept old heard []) ≡ outcome_by (first_failed (rows ++ later) (situation kept old heard [])) (situation kept old heard [])
-    → (refused.rule == 0) ≡ false → r.rule.0 ≡ refused.rule → plain_reply r.reply ≡ status_alone refused.status
-    → state_left r old.channel ≡ state_due refused.rule (ended_run old) → Answers kept old heard [] r
-refused_answers rows more later kept old heard refused r fails asks ends is_one rule reply left =
+    → (refused.rule == 0) ≡ false → r.rule.0 ≡ refused.rule → reply ≡ status_alone refused.status
+    → state_left r old.channel ≡ state_due refused.rule (ended_run old) → Answers kept old heard [] r reply
+refused_answers rows more later kept old heard refused r reply fails asks ends is_one rule answered left =
     let s = situation kept old heard [] in
-    let same : refused_so refused ≡ outcome_seen r = rw (rule, reply) refl in
+    let same : refused_so refused ≡ outcome_seen r reply = rw (rule, answered) refl in
     record {
       asked = asks ∙ if_not (is_none (first_failed (rows ++ more) s)) (question_of s.kind s) None (some_failed rows more s refused fails);
       ended = ends ∙ failed rows later s refused fails ∙ same;
@@ -157,39 +157,39 @@ refused_answers rows more later kept old heard refused r fails asks ends is_one 
     }
 
 -- a command whose class, instruction or parameters are refused
-pub name_refused : (kept : FullRecord) (old : State) (c : PlainCommand) (refused : PlainRefusal) (r : Reaction) → refusal_by naming_rules (heard_command kept old c []) ≡ Some refused
-    → (refused.rule == 0) ≡ false → r.rule.0 ≡ refused.rule → plain_reply r.reply ≡ status_alone refused.status
-    → state_left r old.channel ≡ state_due refused.rule (ended_run old) → Answers kept old (Command c) [] r
+pub name_refused : (kept : FullRecord) (old : State) (c : PlainCommand) (refused : PlainRefusal) (r : Reaction) (reply : PlainReply) → refusal_by naming_rules (heard_command kept old c []) ≡ Some refused
+    → (refused.rule == 0) ≡ false → r.rule.0 ≡ refused.rule → reply ≡ status_alone refused.status
+    → state_left r old.channel ≡ state_due refused.rule (ended_run old) → Answers kept old (Command c) [] r reply
 unfolding question outcome
-name_refused kept old c refused r fails is_one rule reply left =
+name_refused kept old c refused r reply fails is_one rule answered left =
     let s = heard_command kept old c [] in
-    refused_answers naming_rules (request_rules ++ kind_rules ++ answer_rules) (request_rules ++ kind_rules ++ answer_rules ++ proof_rules) kept old (Command c) refused r fails
+    refused_answers naming_rules (request_rules ++ kind_rules ++ answer_rules) (request_rules ++ kind_rules ++ answer_rules ++ proof_rules) kept old (Command c) refused r reply fails
     (ap (λ (f : Option RuleRow). if is_none f then question_of s.kind s else None) (passed hearing_rules (naming_rules ++ request_rules ++ kind_rules ++ answer_rules) s refl))
     (ap (λ (f : Option RuleRow). outcome_by f s) (passed hearing_rules (naming_rules ++ request_rules ++ kind_rules ++ answer_rules ++ proof_rules) s refl))
-    is_one rule reply left
+    is_one rule answered left
 
 -- a command of some kind in a request that is refused
-pub request_refused : (kept : FullRecord) (old : State) (c : PlainCommand) (refused : PlainRefusal) (r : Reaction) → refusal_by naming_rules (heard_command kept old c []) ≡ None → refusal_by request_rules (heard_command kept old c []) ≡ Some refused
-    → (refused.rule == 0) ≡ false → r.rule.0 ≡ refused.rule → plain_reply r.reply ≡ status_alone refused.status
-    → state_left r old.channel ≡ state_due refused.rule (ended_run old) → Answers kept old (Command c) [] r
+pub request_refused : (kept : FullRecord) (old : State) (c : PlainCommand) (refused : PlainRefusal) (r : Reaction) (reply : PlainReply) → refusal_by naming_rules (heard_command kept old c []) ≡ None → refusal_by request_rules (heard_command kept old c []) ≡ Some refused
+    → (refused.rule == 0) ≡ false → r.rule.0 ≡ refused.rule → reply ≡ status_alone refused.status
+    → state_left r old.channel ≡ state_due refused.rule (ended_run old) → Answers kept old (Command c) [] r reply
 unfolding question outcome
-request_refused kept old c refused r names fails is_one rule reply left =
+request_refused kept old c refused r reply names fails is_one rule answered left =
     let s = heard_command kept old c [] in
-    refused_answers request_rules (kind_rules ++ answer_rules) (kind_rules ++ answer_rules ++ proof_rules) kept old (Command c) refused r fails
+    refused_answers request_rules (kind_rules ++ answer_rules) (kind_rules ++ answer_rules ++ proof_rules) kept old (Command c) refused r reply fails
     (ap (λ (f : Option RuleRow). if is_none f then question_of s.kind s else None)
     (passed hearing_rules (naming_rules ++ request_rules ++ kind_rules ++ answer_rules) s refl ∙ passed naming_rules (request_rules ++ kind_rules ++ answer_rules) s names))
     (ap (λ (f : Option RuleRow). outcome_by f s)
     (passed hearing_rules (naming_rules ++ request_rules ++ kind_rules ++ answer_rules ++ proof_rules) s refl ∙ passed naming_rules (request_rules ++ kind_rules ++ answer_rules ++ proof_rules) s names))
-    is_one rule reply left
+    is_one rule answered left
 
 -- bytes that are no command, or whose objects of secure messaging are missing or wrong
-pub hearing_refused : (kept : FullRecord) (old : State) (heard : Heard) (refused : PlainRefusal) (r : Reaction) → refusal_by hearing_rules (situation kept old heard []) ≡ Some refused
-    → (refused.rule == 0) ≡ false → r.rule.0 ≡ refused.rule → plain_reply r.reply ≡ status_alone refused.status
-    → state_left r old.channel ≡ state_due refused.rule (ended_run old) → Answers kept old heard [] r
+pub hearing_refused : (kept : FullRecord) (old : State) (heard : Heard) (refused : PlainRefusal) (r : Reaction) (reply : PlainReply) → refusal_by hearing_rules (situation kept old heard []) ≡ Some refused
+    → (refused.rule == 0) ≡ false → r.rule.0 ≡ refused.rule → reply ≡ status_alone refused.status
+    → state_left r old.channel ≡ state_due refused.rule (ended_run old) → Answers kept old heard [] r reply
 unfolding question outcome
-hearing_refused kept old heard refused r fails is_one rule reply left =
-    refused_answers hearing_rules (naming_rules ++ request_rules ++ kind_rules ++ answer_rules) (naming_rules ++ request_rules ++ kind_rules ++ answer_rules ++ proof_rules) kept old heard refused r fails
-    refl refl is_one rule reply left
+hearing_refused kept old heard refused r reply fails is_one rule answered left =
+    refused_answers hearing_rules (naming_rules ++ request_rules ++ kind_rules ++ answer_rules) (naming_rules ++ request_rules ++ kind_rules ++ answer_rules ++ proof_rules) kept old heard refused r reply fails
+    refl refl is_one rule answered left
 
 -- a request that is too long, and one that is not
 pub long_request : (kept : FullRecord) (old : State) (c : PlainCommand) (answers : List Answer) → MAX_REQUEST < length c.body → refusal_by request_rules (heard_command kept old c answers) ≡ Some (record { rule = 8; status = 0x6700 })

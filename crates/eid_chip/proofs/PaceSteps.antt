@@ -5,7 +5,7 @@ use Rattle.std.specs.Result.{result_ok}
 use Rattle.std.specs.Str.{bytes_eq}
 use Rattle.std.proofs.lemmas.List.{append-nil}
 use Rattle.eid_apdu.specs.Command.{PlainCommand}
-use Rattle.eid_apdu.specs.Answer.{PlainReply, plain_reply}
+use Rattle.eid_apdu.specs.Answer.{PlainReply}
 use Rattle.eid_copro.specs.Told.{Told as ToldBefore}
 use Rattle.eid_copro.specs.declared.ask.Ask.{Ask}
 use Rattle.eid_copro.specs.declared.ask.Answer.{Answer}
@@ -59,52 +59,52 @@ moved next phase old = record {
 }
 
 -- a reaction that carried the command out, and opened no channel
-pub record WentOn (reaction : Reaction) (old : State) (next : Option Kind) (phase : Phase) (reply : PlainReply) : Type 0 where
+pub record WentOn (reaction : Reaction) (said : PlainReply) (old : State) (next : Option Kind) (phase : Phase) (reply : PlainReply) : Type 0 where
   pub rule : reaction.rule.0 ≡ 0
-  pub answered : plain_reply reaction.reply ≡ reply
+  pub answered : said ≡ reply
   pub state : state_left reaction old.channel ≡ moved next phase old
 
-pub went_on : (reaction : Reaction) (old : Session) (channel : Option ChannelState) (new : Session) (reply : PlainReply) → reaction.rule.0 ≡ 0 → plain_reply reaction.reply ≡ reply → reaction.opened ≡ None → reaction.session ≡ new → old.memory ≡ new.memory
-    → WentOn reaction (state old channel) (state new channel).next (state new channel).phase reply
-went_on reaction old channel new reply rule answer opened session memory = record {
+pub went_on : (reaction : Reaction) (said : PlainReply) (old : Session) (channel : Option ChannelState) (new : Session) (reply : PlainReply) → reaction.rule.0 ≡ 0 → said ≡ reply → reaction.opened ≡ None → reaction.session ≡ new → old.memory ≡ new.memory
+    → WentOn reaction said (state old channel) (state new channel).next (state new channel).phase reply
+went_on reaction said old channel new reply rule answer opened session memory = record {
   rule = rule;
   answered = answer;
   state = rw (rule, opened, session, memory) refl;
 }
 
-outcome_is : (rule : ℕ) (reply : PlainReply) (reaction : Reaction) → reaction.rule.0 ≡ rule → plain_reply reaction.reply ≡ reply → record { rule = rule; reply = reply } ≡ outcome_seen reaction
-outcome_is rule reply reaction e f = cc
+outcome_is : (rule : ℕ) (reply : PlainReply) (reaction : Reaction) (said : PlainReply) → reaction.rule.0 ≡ rule → said ≡ reply → record { rule = rule; reply = reply } ≡ outcome_seen reaction said
+outcome_is rule reply reaction said e f = cc
 
 due : (rule : ℕ) (kind : Kind) (c : PlainCommand) (given : List Answer) (old : State) → rule ≡ 0 → advanced kind c given old ≡ state_due rule (state_answered rule (Some kind) c given old)
 due rule kind c given old e = rw e refl
 
 -- a body that has not the form of its step
-pub record WasUnformed (reaction : Reaction) (old : State) : Type 0 where
+pub record WasUnformed (reaction : Reaction) (said : PlainReply) (old : State) : Type 0 where
   pub rule : reaction.rule.0 ≡ 10
-  pub answered : plain_reply reaction.reply ≡ status_alone 0x6A80
+  pub answered : said ≡ status_alone 0x6A80
   pub state : state_left reaction old.channel ≡ state_due 10 (ended_run old)
 
 not_due : (rule : ℕ) (kind : Kind) (c : PlainCommand) (given : List Answer) (old : State) → rule ≡ 10 → state_due 10 (ended_run old) ≡ state_due rule (state_answered rule (Some kind) c given old)
 not_due rule kind c given old e = rw e refl
 
-pub no_empty_body : (kept : FullRecord) (old : State) (c : PlainCommand) (reaction : Reaction) → bytes_eq c.body no_data ≡ false → WasUnformed reaction old → Told EncryptedNonce kept old c [] reaction
-no_empty_body kept old c reaction body h = record {
+pub no_empty_body : (kept : FullRecord) (old : State) (c : PlainCommand) (reaction : Reaction) (said : PlainReply) → bytes_eq c.body no_data ≡ false → WasUnformed reaction said old → Told EncryptedNonce kept old c [] reaction said
+no_empty_body kept old c reaction said body h = record {
   asked = rw body refl;
-  ended = rw body (outcome_is 10 _ reaction h.rule h.answered);
+  ended = rw body (outcome_is 10 _ reaction said h.rule h.answered);
   left = h.state ∙ not_due reaction.rule.0 EncryptedNonce c [] old h.rule;
 }
 
-pub no_point_to_map : (kept : FullRecord) (old : State) (c : PlainCommand) (reaction : Reaction) → holds_point 0x81 c.body ≡ false → WasUnformed reaction old → Told MapNonce kept old c [] reaction
-no_point_to_map kept old c reaction body h = record {
+pub no_point_to_map : (kept : FullRecord) (old : State) (c : PlainCommand) (reaction : Reaction) (said : PlainReply) → holds_point 0x81 c.body ≡ false → WasUnformed reaction said old → Told MapNonce kept old c [] reaction said
+no_point_to_map kept old c reaction said body h = record {
   asked = rw body refl;
-  ended = rw body (outcome_is 10 _ reaction h.rule h.answered);
+  ended = rw body (outcome_is 10 _ reaction said h.rule h.answered);
   left = h.state ∙ not_due reaction.rule.0 MapNonce c [] old h.rule;
 }
 
-pub no_point_to_agree : (kept : FullRecord) (old : State) (c : PlainCommand) (reaction : Reaction) → holds_point 0x83 c.body ≡ false → WasUnformed reaction old → Told PerformKeyAgreement kept old c [] reaction
-no_point_to_agree kept old c reaction body h = record {
+pub no_point_to_agree : (kept : FullRecord) (old : State) (c : PlainCommand) (reaction : Reaction) (said : PlainReply) → holds_point 0x83 c.body ≡ false → WasUnformed reaction said old → Told PerformKeyAgreement kept old c [] reaction said
+no_point_to_agree kept old c reaction said body h = record {
   asked = rw body refl;
-  ended = rw body (outcome_is 10 _ reaction h.rule h.answered);
+  ended = rw body (outcome_is 10 _ reaction said h.rule h.answered);
   left = h.state ∙ not_due reaction.rule.0 PerformKeyAgreement c [] old h.rule;
 }
 
@@ -117,14 +117,14 @@ chosen_parts (Some s) choice e = (refl, at (s.reference == 2) _ password_rule e)
     at true given rule e = refl
     at false given rule e = absurd cc
 
-pub selected : (kept : FullRecord) (old : State) (c : PlainCommand) (choice : PlainChoice) (reaction : Reaction) → Ok choice ≡ chosen_by (selection_in c.body) → WentOn reaction old (Some EncryptedNonce) (Chose choice) (status_alone 0x9000) → Told SelectPace kept old c [] reaction
+pub selected : (kept : FullRecord) (old : State) (c : PlainCommand) (choice : PlainChoice) (reaction : Reaction) (said : PlainReply) → Ok choice ≡ chosen_by (selection_in c.body) → WentOn reaction said old (Some EncryptedNonce) (Chose choice) (status_alone 0x9000) → Told SelectPace kept old c [] reaction said
 unfolding entered
-selected kept old c choice reaction e h =
+selected kept old c choice reaction said e h =
     let parts = chosen_parts (selection_in c.body) choice e in
     let phase : Chose choice ≡ as_chosen (result_ok (chosen_by (selection_in c.body))) = ap (λ (r : Result PlainChoice ℕ). as_chosen (result_ok r)) e in
     record {
       asked = rw (parts.0, parts.1) refl;
-      ended = rw (parts.0, parts.1) (outcome_is 0 (status_alone 0x9000) reaction h.rule h.answered);
+      ended = rw (parts.0, parts.1) (outcome_is 0 (status_alone 0x9000) reaction said h.rule h.answered);
       left = h.state ∙ ap (λ (p : Phase). moved (Some EncryptedNonce) p old) phase ∙ due reaction.rule.0 SelectPace c [] old h.rule;
     }
 
@@ -134,48 +134,48 @@ both {A = A} {B = B} x a y b e =
     (ap (λ (p : A × B). p.0) pair, ap (λ (p : A × B). p.1) pair)
 
 -- a nonce was drawn, and sent
-pub nonce_sent : (kept : FullRecord) (old : State) (c : PlainCommand) (choice : PlainChoice) (end : NonceEnd) (sent : PlainNonceSent) (bytes : List ℕ) (reaction : Reaction) → old.phase ≡ Chose choice → bytes_eq c.body no_data ≡ true → Ok (sent, bytes) ≡ nonce_given choice (digits_of kept.fields choice.password) end → WentOn reaction old (Some MapNonce) (SentNonce sent) (data_alone (authentication_data 0x80 bytes)) → Told EncryptedNonce kept old c (nonce_asks end) reaction
+pub nonce_sent : (kept : FullRecord) (old : State) (c : PlainCommand) (choice : PlainChoice) (end : NonceEnd) (sent : PlainNonceSent) (bytes : List ℕ) (reaction : Reaction) (said : PlainReply) → old.phase ≡ Chose choice → bytes_eq c.body no_data ≡ true → Ok (sent, bytes) ≡ nonce_given choice (digits_of kept.fields choice.password) end → WentOn reaction said old (Some MapNonce) (SentNonce sent) (data_alone (authentication_data 0x80 bytes)) → Told EncryptedNonce kept old c (nonce_asks end) reaction said
 unfolding entered
-nonce_sent kept old c choice NoNonce sent bytes reaction at body e h = absurd cc
-nonce_sent kept old c choice (Drawn nonce) sent bytes reaction at body e h =
+nonce_sent kept old c choice NoNonce sent bytes reaction said at body e h = absurd cc
+nonce_sent kept old c choice (Drawn nonce) sent bytes reaction said at body e h =
     let parts = both sent (record { choice = choice; nonce = nonce }) bytes (encrypted_nonce (digits_of kept.fields choice.password) nonce) e in
     let phase : SentNonce sent ≡ with_nonce (answers.Nonce nonce ∷ []) old.phase = rw (at, parts.0) refl in
     record {
       asked = (rw (body, at) refl, refl, rw (body, at) refl);
-      ended = rw (body, at) (outcome_is 0 _ reaction h.rule (h.answered ∙ ap (λ (b : List ℕ). data_alone (authentication_data 0x80 b)) parts.1));
+      ended = rw (body, at) (outcome_is 0 _ reaction said h.rule (h.answered ∙ ap (λ (b : List ℕ). data_alone (authentication_data 0x80 b)) parts.1));
       left = h.state ∙ ap (λ (p : Phase). moved (Some MapNonce) p old) phase ∙ due reaction.rule.0 EncryptedNonce c (answers.Nonce nonce ∷ []) old h.rule;
     }
 
 -- a pair was drawn, and the nonce mapped to a base
-pub mapped_to : (kept : FullRecord) (old : State) (c : PlainCommand) (sent : PlainNonceSent) (peer : List ℕ) (end : MapEnd) (mapped : PlainMapped) (public : List ℕ) (reaction : Reaction) → old.phase ≡ SentNonce sent → peer ≡ data_in c.body → holds_point 0x81 c.body ≡ true → Ok (mapped, public) ≡ map_given sent end → WentOn reaction old (Some PerformKeyAgreement) (HasBase mapped) (data_alone (authentication_data 0x82 public)) → Told MapNonce kept old c (map_asks sent peer end) reaction
+pub mapped_to : (kept : FullRecord) (old : State) (c : PlainCommand) (sent : PlainNonceSent) (peer : List ℕ) (end : MapEnd) (mapped : PlainMapped) (public : List ℕ) (reaction : Reaction) (said : PlainReply) → old.phase ≡ SentNonce sent → peer ≡ data_in c.body → holds_point 0x81 c.body ≡ true → Ok (mapped, public) ≡ map_given sent end → WentOn reaction said old (Some PerformKeyAgreement) (HasBase mapped) (data_alone (authentication_data 0x82 public)) → Told MapNonce kept old c (map_asks sent peer end) reaction said
 unfolding entered
-mapped_to kept old c sent peer NoPair mapped public reaction at is body e h = absurd cc
-mapped_to kept old c sent peer (NoMapping secret own) mapped public reaction at is body e h = absurd cc
-mapped_to kept old c sent peer (NoBase secret own) mapped public reaction at is body e h = absurd cc
-mapped_to kept old c sent peer (Based secret own base) mapped public reaction at is body e h =
+mapped_to kept old c sent peer NoPair mapped public reaction said at is body e h = absurd cc
+mapped_to kept old c sent peer (NoMapping secret own) mapped public reaction said at is body e h = absurd cc
+mapped_to kept old c sent peer (NoBase secret own) mapped public reaction said at is body e h = absurd cc
+mapped_to kept old c sent peer (Based secret own base) mapped public reaction said at is body e h =
     let parts = both mapped (record { choice = sent.choice; base = base }) public own e in
     let given : List Answer = answers.Pair secret own ∷ answers.Mapped base ∷ [] in
     let phase : HasBase mapped ≡ with_base given old.phase = rw (at, parts.0) refl in
     record {
       asked = (rw (body, at) refl, refl, (rw (body, at, is) refl, refl, rw (body, at) refl));
-      ended = rw body (outcome_is 0 _ reaction h.rule (h.answered ∙ ap (λ (b : List ℕ). data_alone (authentication_data 0x82 b)) parts.1));
+      ended = rw body (outcome_is 0 _ reaction said h.rule (h.answered ∙ ap (λ (b : List ℕ). data_alone (authentication_data 0x82 b)) parts.1));
       left = h.state ∙ ap (λ (p : Phase). moved (Some PerformKeyAgreement) p old) phase ∙ due reaction.rule.0 MapNonce c given old h.rule;
     }
 
 -- a pair was drawn over the base, and a secret agreed
-pub agreed_on : (kept : FullRecord) (old : State) (c : PlainCommand) (mapped : PlainMapped) (peer : List ℕ) (end : AgreeEnd peer) (agreed : PlainAgreed) (public : List ℕ) (reaction : Reaction) → old.phase ≡ HasBase mapped → peer ≡ data_in c.body → holds_point 0x83 c.body ≡ true → Ok (agreed, public) ≡ agree_given mapped peer end → WentOn reaction old (Some MutualAuthentication) (HasSecret agreed) (data_alone (authentication_data 0x84 public)) → Told PerformKeyAgreement kept old c (agree_asks mapped peer end) reaction
+pub agreed_on : (kept : FullRecord) (old : State) (c : PlainCommand) (mapped : PlainMapped) (peer : List ℕ) (end : AgreeEnd peer) (agreed : PlainAgreed) (public : List ℕ) (reaction : Reaction) (said : PlainReply) → old.phase ≡ HasBase mapped → peer ≡ data_in c.body → holds_point 0x83 c.body ≡ true → Ok (agreed, public) ≡ agree_given mapped peer end → WentOn reaction said old (Some MutualAuthentication) (HasSecret agreed) (data_alone (authentication_data 0x84 public)) → Told PerformKeyAgreement kept old c (agree_asks mapped peer end) reaction said
 unfolding entered
-agreed_on kept old c mapped peer agree.NoPair agreed public reaction at is body e h = absurd cc
-agreed_on kept old c mapped peer (agree.SamePoint secret own same) agreed public reaction at is body e h = absurd cc
-agreed_on kept old c mapped peer (agree.NoAgreement secret own other) agreed public reaction at is body e h = absurd cc
-agreed_on kept old c mapped peer (agree.NoSecret secret own other) agreed public reaction at is body e h = absurd cc
-agreed_on kept old c mapped peer (agree.Shared secret own shared other) agreed public reaction at is body e h =
+agreed_on kept old c mapped peer agree.NoPair agreed public reaction said at is body e h = absurd cc
+agreed_on kept old c mapped peer (agree.SamePoint secret own same) agreed public reaction said at is body e h = absurd cc
+agreed_on kept old c mapped peer (agree.NoAgreement secret own other) agreed public reaction said at is body e h = absurd cc
+agreed_on kept old c mapped peer (agree.NoSecret secret own other) agreed public reaction said at is body e h = absurd cc
+agreed_on kept old c mapped peer (agree.Shared secret own shared other) agreed public reaction said at is body e h =
     let parts = both agreed (record { choice = mapped.choice; chip_point = own; terminal_point = peer; shared = shared }) public own e in
     let given : List Answer = answers.Pair secret own ∷ answers.Shared shared ∷ [] in
     let phase : HasSecret agreed ≡ with_secret (data_in c.body) given old.phase = rw (at, parts.0, is) refl in
     record {
       asked = (rw (body, at) refl, refl, (rw (body, at, ← is, other) refl, refl, rw (body, at, ← is, other) refl));
-      ended = rw (body, ← is, other) (outcome_is 0 _ reaction h.rule (h.answered ∙ ap (λ (b : List ℕ). data_alone (authentication_data 0x84 b)) parts.1));
+      ended = rw (body, ← is, other) (outcome_is 0 _ reaction said h.rule (h.answered ∙ ap (λ (b : List ℕ). data_alone (authentication_data 0x84 b)) parts.1));
       left = h.state ∙ ap (λ (p : Phase). moved (Some MutualAuthentication) p old) phase ∙ due reaction.rule.0 PerformKeyAgreement c given old h.rule;
     }
 
@@ -188,15 +188,15 @@ abbrev last_data : FullRecord → List ℕ → List ℕ
 last_data kept own = object 0x7C (object 0x86 own ++ object 0x87 kept.fields.current.name ++ previous_name kept.fields.previous)
 
 -- the terminal's token was right, and a channel was opened
-pub authenticated : (kept : FullRecord) (old : State) (c : PlainCommand) (agreed : PlainAgreed) (sent : List ℕ) (done : PlainDone) (own : List ℕ) (reaction : Reaction) → old.phase ≡ HasSecret agreed → sent ≡ data_in c.body → holds_value 0x85 8 c.body ≡ true → Ok (done, own) ≡ check_given agreed sent → reaction.rule.0 ≡ 0 → plain_reply reaction.reply ≡ data_alone (last_data kept own)
+pub authenticated : (kept : FullRecord) (old : State) (c : PlainCommand) (agreed : PlainAgreed) (sent : List ℕ) (done : PlainDone) (own : List ℕ) (reaction : Reaction) (said : PlainReply) → old.phase ≡ HasSecret agreed → sent ≡ data_in c.body → holds_value 0x85 8 c.body ≡ true → Ok (done, own) ≡ check_given agreed sent → reaction.rule.0 ≡ 0 → said ≡ data_alone (last_data kept own)
     → state_left reaction old.channel ≡ record { next = None; phase = Idle; selected = old.selected; current = old.current; pace = Some (memory_of done); channel = Some (channel_after 0 done) }
-    → Told MutualAuthentication kept old c [] reaction
+    → Told MutualAuthentication kept old c [] reaction said
 unfolding entered
-authenticated kept old c agreed sent done own reaction at is body e rule answer left =
+authenticated kept old c agreed sent done own reaction said at is body e rule answer left =
     let parts = token_parts (bytes_eq sent (token agreed.shared agreed.chip_point)) done (done_by agreed) own (token agreed.shared agreed.terminal_point) token_rule e in
     let right : bytes_eq (data_in c.body) (token agreed.shared agreed.chip_point) ≡ true = rw (← is) parts.0 in
     record {
       asked = rw body refl;
-      ended = rw (body, at, right) (outcome_is 0 _ reaction rule (answer ∙ ap (λ (o : List ℕ). data_alone (last_data kept o)) parts.2));
+      ended = rw (body, at, right) (outcome_is 0 _ reaction said rule (answer ∙ ap (λ (o : List ℕ). data_alone (last_data kept o)) parts.2));
       left = left ∙ rw (rule, at, parts.1) refl;
     }

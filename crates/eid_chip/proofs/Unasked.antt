@@ -2,7 +2,7 @@
 use Rattle.std.proofs.Common.{◌≡◌, sym, ℕ, List, [], Option, refl, subst, arith}
 use Rattle.std.proofs.lemmas.List.{append-nil}
 use Rattle.eid_apdu.specs.Command.{PlainCommand}
-use Rattle.eid_apdu.specs.Answer.{plain_reply}
+use Rattle.eid_apdu.specs.Answer.{PlainReply}
 use Rattle.eid_copro.specs.Told.{Told as ToldBefore}
 use Rattle.eid_copro.specs.declared.ask.Ask.{Ask}
 use Rattle.eid_record.specs.Plain.{FullRecord}
@@ -28,17 +28,17 @@ not_asked log spare faults told copro = record {
 }
 
 -- the coprocessor stays as it is
-pub unasked : {C : Type 0} (log : C → List Ask) (spare faults : C → ℕ) (told : C → ToldBefore) (copro : C) (kind is : Kind) (kept : FullRecord) (session : Session) (c : PlainCommand) (r : Reaction) → kind ≡ is → ((channel : Option ChannelState) → Told is kept (state session channel) c [] r) → Stepped log spare faults told copro copro kind kept session c r
-unasked log spare faults told copro kind is kept session c r same tells = record {
+pub unasked : {C : Type 0} (log : C → List Ask) (spare faults : C → ℕ) (told : C → ToldBefore) (copro : C) (kind is : Kind) (kept : FullRecord) (session : Session) (c : PlainCommand) (r : Reaction) (reply : PlainReply) → kind ≡ is → ((channel : Option ChannelState) → Told is kept (state session channel) c [] r reply) → Stepped log spare faults told copro copro kind kept session c r reply
+unasked log spare faults told copro kind is kept session c r reply same tells = record {
   asks = [];
   were_asked = not_asked log spare faults told copro;
-  tells = λ channel. subst (λ (k : Kind). Told k kept (state session channel) c [] r) (sym same) (tells channel);
+  tells = λ channel. subst (λ (k : Kind). Told k kept (state session channel) c [] r reply) (sym same) (tells channel);
 }
 
 -- a GENERAL AUTHENTICATE that the run has not come to is refused
-pub no_step : (kept : FullRecord) (old : State) (c : PlainCommand) (r : Reaction) → r.rule.0 ≡ 9 → plain_reply r.reply ≡ status_alone 0x6985 → state_left r old.channel ≡ state_due 9 (ended_run old) → Told NoStep kept old c [] r
-no_step kept old c r rule reply left = record {
+pub no_step : (kept : FullRecord) (old : State) (c : PlainCommand) (r : Reaction) (reply : PlainReply) → r.rule.0 ≡ 9 → reply ≡ status_alone 0x6985 → state_left r old.channel ≡ state_due 9 (ended_run old) → Told NoStep kept old c [] r reply
+no_step kept old c r reply rule answered left = record {
   asked = refl;
-  ended = rw (rule, reply) refl;
+  ended = rw (rule, answered) refl;
   left = rw rule (rw rule at left);
 }

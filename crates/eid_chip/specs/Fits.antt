@@ -1,5 +1,5 @@
 -- When a chip over a device fits a journal.
-use Rattle.std.specs.Prelude.{◌≡◌, ℕ, Bool, true, false, List, [], ◌∷◌, Option, Some, None, is_some, is_none, option_map, Result, Ok, Err}
+use Rattle.std.specs.Prelude.{◌≡◌, ℕ, Bool, true, false, List, [], ◌∷◌, Option, Some, None, is_some, is_none, Result, Ok, Err}
 use Rattle.eid_apdu.specs.Answer.{plain_reply}
 use Rattle.eid_cells.specs.Device.{Device}
 use Rattle.eid_copro.specs.Told.{Told}
@@ -12,12 +12,13 @@ use Rattle.eid_store.specs.Store as store
 use Rattle.eid_model.specs.Moments.{Received, PlainMoment, on, live}
 use Rattle.eid_model.specs.Sessions.{state_of}
 use Rattle.eid_model.specs.Legal.{IsLegalMoment, silent, kept}
-use Rattle.eid_model.specs.View as view
 use Rattle.eid_chip.specs.declared.running.Running.{Running}
 use Rattle.eid_chip.specs.declared.chip.Chip.{Chip}
-use Rattle.eid_chip.specs.declared.chip.Handled.{Handled}
-use Rattle.eid_chip.specs.declared.chip.Handled.TheVariants.{Silent, Answered}
+use Rattle.eid_chip.specs.declared.exchange.Exchange.{Exchange}
+use Rattle.eid_chip.specs.declared.exchange.Handled.{Handled}
+use Rattle.eid_chip.specs.declared.exchange.Handled.TheVariants.{Silent, Answered}
 use Rattle.eid_chip.specs.States.{state}
+use Rattle.eid_chip.specs.Steps.{plain_in}
 
 -- where the chip is on, its store fits the cells
 abbrev pub IsSoundLife : Option Running → Device → List ℕ → Type 0
@@ -44,17 +45,17 @@ pub record Fits (chip : Chip) (device : Device) (cells : List ℕ) (opening : Fu
 abbrev pub Follows : Chip → Device → List ℕ → Chip → Device → List ℕ → PlainMoment → Type 0
 Follows old device cells new new_device new_cells m = (opening : FullRecord) (before : List PlainMoment) → Fits old device cells opening before → IsLegalMoment opening before m × Fits new new_device new_cells opening (m ∷ before)
 
--- the moment of bytes handled so, with these questions
-abbrev pub handled : List ℕ → List Ask → Handled → PlainMoment
-handled bytes asks Silent = silent (Received bytes)
-handled bytes asks (Answered plain finished rule answer sent) = record {
+-- the moment of bytes handled so, with these questions and this exchange
+abbrev pub handled : List ℕ → List Ask → Handled → Exchange → PlainMoment
+handled bytes asks Silent exchange = silent (Received bytes)
+handled bytes asks (Answered plain finished rule) exchange = record {
   input = Received bytes;
-  plain = option_map view.plain plain;
+  plain = plain_in exchange plain;
   asks = asks;
   finished = finished;
   rule = rule.0;
-  answer = Some (plain_reply answer);
-  sent = Some sent.items;
+  answer = Some (plain_reply exchange.answer);
+  sent = Some exchange.sent.items;
 }
 
 -- the number that a power-on found, where mounting was not cut
@@ -64,14 +65,14 @@ found (Err error) = None
 
 abbrev pub is_silent : Handled → Bool
 is_silent Silent = true
-is_silent (Answered plain finished rule answer sent) = false
+is_silent (Answered plain finished rule) = false
 
 abbrev pub is_off : Chip → Bool
 is_off chip = is_none chip.life
 
 -- bytes were handled: the coprocessor's log grew by the questions of a moment that follows
-pub record Handles {C : Type 0} (log : C → List Ask) (spare faults : C → ℕ) (told : C → Told) (before after : C) (old : Chip) (device : Device) (cells : List ℕ) (new : Chip) (new_device : Device) (new_cells bytes : List ℕ) (result : Handled) : Type 0 where
+pub record Handles {C : Type 0} (log : C → List Ask) (spare faults : C → ℕ) (told : C → Told) (before after : C) (old : Chip) (device : Device) (cells : List ℕ) (new : Chip) (new_device : Device) (new_cells bytes : List ℕ) (result : Handled) (exchange : Exchange) : Type 0 where
   pub asks : List Ask
   pub were_asked : WereAsked log spare faults told before after asks
   pub unasked : is_silent result ≡ true → asks ≡ []
-  pub follows : Follows old device cells new new_device new_cells (handled bytes asks result)
+  pub follows : Follows old device cells new new_device new_cells (handled bytes asks result exchange)

@@ -3,13 +3,15 @@
 use Rattle.std.specs.Prelude.{◌≡◌, ℕ, ◌==◌, ◌||◌, List, [], Option, Some, None, option_map, if◌then◌else◌}
 use Rattle.std.specs.Option.{option_or}
 use Rattle.eid_apdu.specs.Command.{PlainCommand}
-use Rattle.eid_apdu.specs.Answer.{PlainReply, plain_reply, spelled}
+use Rattle.eid_apdu.specs.Answer.{PlainReply, spelled}
 use Rattle.eid_copro.specs.Told.{Told as ToldBefore}
 use Rattle.eid_copro.specs.declared.ask.Ask.{Ask}
 use Rattle.eid_copro.specs.declared.ask.Answer.{Answer}
 use Rattle.eid_record.specs.Plain.{FullRecord}
 use Rattle.eid_pace.specs.Asking.{WereAsked}
+use Rattle.eid_sm.specs.declared.channel.Header.{Header}
 use Rattle.eid_sm.specs.Keys.{ChannelState, advanced, next_counter}
+use Rattle.eid_sm.specs.Plain.{plain_of as with_body}
 use Rattle.eid_sm.specs.Replies.{sealed}
 use Rattle.eid_model.specs.declared.kind.Kind.{Kind}
 use Rattle.eid_model.specs.Moments.{ends_session_by}
@@ -18,12 +20,11 @@ use Rattle.eid_model.specs.Sessions.{State, fresh, two_messages_later}
 use Rattle.eid_model.specs.Rules.{Heard, Command, plain_of, Situation, RuleRow, kind_rules, first_failed}
 use Rattle.eid_model.specs.Answers.{Outcome, outcome, question, outcome_of, question_by, situation, kind_heard, command_of, state_answered}
 use Rattle.eid_model.specs.Legal.{IsHeard, AreAsked}
-use Rattle.eid_model.specs.View as view
+use Rattle.eid_chip.specs.declared.exchange.Exchange.{Exchange}
 use Rattle.eid_chip.specs.declared.session.Session.{Session}
 use Rattle.eid_chip.specs.States.{state}
 use Rattle.eid_chip.specs.declared.refusal.Refusal.{Refusal}
 use Rattle.eid_chip.specs.declared.reaction.Reaction.{Reaction}
-use Rattle.eid_chip.specs.declared.reaction.Response.{Response}
 
 -- A refusal as numbers.
 pub record PlainRefusal : Type 0 where
@@ -43,8 +44,8 @@ known kind kept old c answers =
     record { heard = Command c; command = c; kind = Some kind; kept = kept; state = old; answers = answers }
 
 -- what a step answered
-abbrev pub outcome_seen : Reaction → Outcome
-outcome_seen r = record { rule = r.rule.0; reply = plain_reply r.reply }
+abbrev pub outcome_seen : Reaction → PlainReply → Outcome
+outcome_seen r reply = record { rule = r.rule.0; reply = reply }
 
 -- the channel after a step: the one that it opened, or the one before, two messages later; none where the session ended
 abbrev pub channel_left : Reaction → Option ChannelState → Option ChannelState
@@ -61,40 +62,44 @@ state_due rule answered = if ends_session_by rule then fresh else answered
 
 -- a command of a known kind put these questions, was answered by the first failed of the kind's rules and those over
 -- the answers, and left this state
-pub record Told (kind : Kind) (kept : FullRecord) (old : State) (c : PlainCommand) (asks : List Ask) (reaction : Reaction) : Type 0 where
+pub record Told (kind : Kind) (kept : FullRecord) (old : State) (c : PlainCommand) (asks : List Ask) (reaction : Reaction) (reply : PlainReply) : Type 0 where
   pub asked : AreAsked (λ answers. question_by kind_rules (known kind kept old c answers)) [] asks
-  pub ended : outcome_of kind_rules (known kind kept old c (answers_of asks)) ≡ outcome_seen reaction
+  pub ended : outcome_of kind_rules (known kind kept old c (answers_of asks)) ≡ outcome_seen reaction reply
   pub left : state_left reaction old.channel ≡ state_due reaction.rule.0 (state_answered reaction.rule.0 (Some kind) c (answers_of asks) old)
 
 -- a command of a known kind put questions, by which the log grew, and was answered by them, in any channel
-pub record Stepped {C : Type 0} (log : C → List Ask) (spare faults : C → ℕ) (told : C → ToldBefore) (before after : C) (kind : Kind) (kept : FullRecord) (session : Session) (c : PlainCommand) (reaction : Reaction) : Type 0 where
+pub record Stepped {C : Type 0} (log : C → List Ask) (spare faults : C → ℕ) (told : C → ToldBefore) (before after : C) (kind : Kind) (kept : FullRecord) (session : Session) (c : PlainCommand) (reaction : Reaction) (reply : PlainReply) : Type 0 where
   pub asks : List Ask
   pub were_asked : WereAsked log spare faults told before after asks
-  pub tells : (channel : Option ChannelState) → Told kind kept (state session channel) c asks reaction
+  pub tells : (channel : Option ChannelState) → Told kind kept (state session channel) c asks reaction reply
 
 abbrev pub as_heard : PlainCommand → Heard
 as_heard c = Command c
 
 -- a command put these questions, was answered by the first failed rule, and left this state
-pub record Answers (kept : FullRecord) (old : State) (heard : Heard) (asks : List Ask) (reaction : Reaction) : Type 0 where
+pub record Answers (kept : FullRecord) (old : State) (heard : Heard) (asks : List Ask) (reaction : Reaction) (reply : PlainReply) : Type 0 where
   pub asked : AreAsked (λ answers. question (situation kept old heard answers)) [] asks
-  pub ended : outcome (situation kept old heard (answers_of asks)) ≡ outcome_seen reaction
+  pub ended : outcome (situation kept old heard (answers_of asks)) ≡ outcome_seen reaction reply
   pub left : state_left reaction old.channel ≡ state_due reaction.rule.0 (state_answered reaction.rule.0 (kind_heard old heard) (command_of heard) (answers_of asks) old)
 
 -- a command put questions, by which the log grew, and was answered by them, in any channel
-pub record Reacts {C : Type 0} (log : C → List Ask) (spare faults : C → ℕ) (told : C → ToldBefore) (before after : C) (kept : FullRecord) (session : Session) (c : PlainCommand) (reaction : Reaction) : Type 0 where
+pub record Reacts {C : Type 0} (log : C → List Ask) (spare faults : C → ℕ) (told : C → ToldBefore) (before after : C) (kept : FullRecord) (session : Session) (c : PlainCommand) (reaction : Reaction) (reply : PlainReply) : Type 0 where
   pub asks : List Ask
   pub were_asked : WereAsked log spare faults told before after asks
-  pub answers : (channel : Option ChannelState) → Answers kept (state session channel) (Command c) asks reaction
+  pub answers : (channel : Option ChannelState) → Answers kept (state session channel) (Command c) asks reaction reply
+
+-- the plain command whose body stands in an exchange, where there is one
+abbrev pub plain_in : Exchange → Option Header → Option PlainCommand
+plain_in exchange plain = option_map (λ header. with_body header exchange.body.items) plain
 
 -- bytes were heard, in a channel or without one, and answered
-pub record Responds {C : Type 0} (log : C → List Ask) (spare faults : C → ℕ) (told : C → ToldBefore) (before after : C) (kept : FullRecord) (session : Session) (channel : Option ChannelState) (bytes : List ℕ) (response : Response) : Type 0 where
+pub record Responds {C : Type 0} (log : C → List Ask) (spare faults : C → ℕ) (told : C → ToldBefore) (before after : C) (kept : FullRecord) (session : Session) (channel : Option ChannelState) (bytes : List ℕ) (plain : Option PlainCommand) (reaction : Reaction) (reply : PlainReply) : Type 0 where
   pub heard : Heard
   pub hears : IsHeard channel bytes heard
-  pub plain : option_map view.plain response.plain ≡ plain_of heard
+  pub is_plain : plain ≡ plain_of heard
   pub asks : List Ask
   pub were_asked : WereAsked log spare faults told before after asks
-  pub answers : Answers kept (state session channel) heard asks response.reaction
+  pub answers : Answers kept (state session channel) heard asks reaction reply
 
 -- the channel while the answer is made: where a protected command was heard, one message later
 abbrev pub heard_in : ℕ → Option ChannelState → Option ChannelState

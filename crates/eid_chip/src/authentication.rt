@@ -9,7 +9,7 @@ ghost use Rattle.eid_model.specs.Answers.{data_alone};
 ghost use Rattle.eid_model.specs.Bodies.{authentication_data, data_in, holds_point, holds_value, no_data};
 
 use arrayvec::ArrayVec;
-use eid_apdu::{MAX_CONTENT, Reply};
+use eid_apdu::Reply;
 use eid_base::{Point, Status};
 use eid_tlv::put;
 
@@ -81,29 +81,26 @@ pub fn append<const N: usize>(out: &mut ArrayVec<u8, N>, tag: u16, value: &[u8])
     put(out, tag, value).unwrap();
 }
 
-/// A reply of 9000 with this in 7C.
-pub fn reply_in_data(inner: &[u8]) -> Reply
+/// Makes the reply one of 9000 with this in 7C.
+pub fn put_in_data(inner: &[u8], reply: &mut Reply)
     requires { length inner.now ≤ 200 }
-    ensures plain { plain_reply result ≡ data_alone (object 0x7C inner.now) }
-    ensures small { array_vec_len result.content ≤ 2048 }
+    ensures plain { plain_reply reply.new ≡ data_alone (object 0x7C inner.now) }
+    ensures small { array_vec_len reply.new.content ≤ 2048 }
 {
-    let mut content = ArrayVec::<u8, MAX_CONTENT>::new();
-    append(&mut content, 0x7c, inner);
-    Reply {
-        content,
-        status: Status(0x9000),
-    }
+    reply.content.clear();
+    append(&mut reply.content, 0x7c, inner);
+    reply.status = Status(0x9000);
 }
 
-/// A reply of 9000 with a value under a tag in 7C.
+/// Makes the reply one of 9000 with a value under a tag in 7C.
 #[tactic(auto, unfolding(eid_model::specs::Bodies::authentication_data))]
-pub fn data_reply(tag: u16, value: &[u8]) -> Reply
+pub fn put_data(tag: u16, value: &[u8], reply: &mut Reply)
     requires tag { IsTrue (is_tag tag) }
     requires size { length value.now ≤ 100 }
-    ensures plain { plain_reply result ≡ data_alone (authentication_data tag value.now) }
-    ensures small { array_vec_len result.content ≤ 2048 }
+    ensures plain { plain_reply reply.new ≡ data_alone (authentication_data tag value.now) }
+    ensures small { array_vec_len reply.new.content ≤ 2048 }
 {
     let mut inner = ArrayVec::<u8, 128>::new();
     append(&mut inner, tag, value);
-    reply_in_data(inner.as_slice())
+    put_in_data(inner.as_slice(), reply);
 }

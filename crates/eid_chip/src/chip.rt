@@ -9,17 +9,18 @@ ghost use Rattle.eid_store.specs.Store as stored;
 ghost use Rattle.eid_store.specs.Stands.{stands};
 ghost use Rattle.eid_apdu.specs.Answer.{plain_reply};
 ghost use Rattle.eid_sm.specs.Keys.{ChannelState};
+ghost use Rattle.eid_sm.specs.Plain.{plain_of};
 ghost use Rattle.eid_model.specs.Moments.{PoweredOn, PoweredOff, ends_session_by};
 ghost use Rattle.eid_model.specs.Sessions.{ended_run};
 ghost use Rattle.eid_model.specs.Kinds.{goes_on_in_run};
 ghost use Rattle.eid_model.specs.Answers.{status_alone};
 ghost use Rattle.eid_model.specs.Legal.{silent};
-ghost use Rattle.eid_model.specs.View as view;
 ghost use Rattle.eid_chip.specs.Held.{held};
 ghost use Rattle.eid_chip.specs.States.{next_of, state};
-ghost use Rattle.eid_chip.specs.Steps.{Reacts, Responds, Stepped, heard_in, sent_next, state_due, state_left};
+ghost use Rattle.eid_chip.specs.Steps.{Reacts, Responds, Stepped, heard_in, plain_in, sent_next, state_due, state_left};
 
 use crate::ending::{ends_session, refused};
+use crate::exchange::{Exchange, Handled};
 use crate::naming::kind_of;
 use crate::pace::{
     encrypted_nonce, map_nonce, mutual_authentication, perform_key_agreement, select_pace,
@@ -34,47 +35,26 @@ use eid_apdu::{Command, Reply, read_command, write_reply};
 use eid_base::Rule;
 use eid_cells::Eeprom;
 use eid_copro::Coprocessor;
-use eid_model::{Kind, MAX_BODY, Plain};
-use eid_sm::{Channel, SmError};
+use eid_model::Kind;
+use eid_sm::{Channel, Header, MAX_MESSAGE, SmError};
 use eid_store::{MountError, Store};
 use std::mem;
 
 /// The longest body of one request, in bytes.
 const MAX_REQUEST: usize = 2048;
 
-/// What came of the bytes of a command.
-#[derive(Debug, Drop)]
-pub enum Handled {
-    /// The chip has no power.
-    Silent,
-    /// The chip answered.
-    Answered {
-        /// The plain command, where the bytes are one.
-        plain: Option<Plain>,
-        /// How many commits finished.
-        finished: u8,
-        /// The first failed rule, or 0.
-        rule: Rule,
-        /// The answer before secure messaging.
-        answer: Reply,
-        /// The bytes sent.
-        sent: ArrayVec<u8, MAX_BODY>,
-    },
-}
-
-/// A command with a body of its own.
-fn own(c: &Command<'_>) -> Plain
-    requires { length c.now.body.now ≤ MAX_BODY }
-    ensures { view.plain result ≡ plain_command c.now }
+/// A command as its header, and its body on its own.
+fn apart(c: &Command<'_>, body: &mut ArrayVec<u8, MAX_MESSAGE>) -> Header
+    requires { length c.now.body.now ≤ MAX_MESSAGE }
+    ensures { plain_of result body.new.items ≡ plain_command c.now }
 {
-    let mut body = ArrayVec::new();
+    body.clear();
     body.try_extend_from_slice(c.body).unwrap();
-    Plain {
+    Header {
         cla: c.cla,
         ins: c.ins,
         p1: c.p1,
         p2: c.p2,
-        body,
         ne: c.ne,
     }
 }
@@ -87,23 +67,25 @@ fn carry_out<E: Eeprom, C: Coprocessor>(
     cells: &E,
     copro: &mut C,
     c: &Command<'_>,
+    reply: &mut Reply,
 ) -> Reaction
     requires fits { stored.Fits store.now (E.device cells.now) (E.cells cells.now) }
     requires room { 2 ≤ C.spare copro.old }
     requires turn { goes_on_in_run kind ≡ true → next_of session.run ≡ Some kind }
-    ensures { Stepped C.log C.spare C.faults C.told copro.old copro.new kind (held (E.cells cells.now)) session (plain_command c.now) result }
+    ensures answers { Stepped C.log C.spare C.faults C.told copro.old copro.new kind (held (E.cells cells.now)) session (plain_command c.now) result (plain_reply reply.new) }
+    ensures small { array_vec_len reply.new.content ≤ 2048 }
 {
     match kind {
-        Kind::SelectApplication => select_application(session, c),
-        Kind::SelectMasterFile => select_master_file(session, c),
-        Kind::SelectFile => select_file(session, c),
-        Kind::ReadBinary => read_binary(session, store, cells, c),
-        Kind::SelectPace => select_pace(session, c),
-        Kind::EncryptedNonce => encrypted_nonce(session, store, cells, copro, c),
-        Kind::MapNonce => map_nonce(session, copro, c),
-        Kind::PerformKeyAgreement => perform_key_agreement(session, copro, c),
-        Kind::MutualAuthentication => mutual_authentication(session, store, cells, c),
-        Kind::NoStep => refused(NO_STEP, session),
+        Kind::SelectApplication => select_application(session, c, reply),
+        Kind::SelectMasterFile => select_master_file(session, c, reply),
+        Kind::SelectFile => select_file(session, c, reply),
+        Kind::ReadBinary => read_binary(session, store, cells, c, reply),
+        Kind::SelectPace => select_pace(session, c, reply),
+        Kind::EncryptedNonce => encrypted_nonce(session, store, cells, copro, c, reply),
+        Kind::MapNonce => map_nonce(session, copro, c, reply),
+        Kind::PerformKeyAgreement => perform_key_agreement(session, copro, c, reply),
+        Kind::MutualAuthentication => mutual_authentication(session, store, cells, c, reply),
+        Kind::NoStep => refused(NO_STEP, session, reply),
     }
 }
 
@@ -114,30 +96,33 @@ fn react<E: Eeprom, C: Coprocessor>(
     cells: &E,
     copro: &mut C,
     c: &Command<'_>,
+    reply: &mut Reply,
 ) -> Reaction
     requires fits { stored.Fits store.now (E.device cells.now) (E.cells cells.now) }
     requires room { 2 ≤ C.spare copro.old }
-    ensures { Reacts C.log C.spare C.faults C.told copro.old copro.new (held (E.cells cells.now)) session (plain_command c.now) result }
+    ensures answers { Reacts C.log C.spare C.faults C.told copro.old copro.new (held (E.cells cells.now)) session (plain_command c.now) result (plain_reply reply.new) }
+    ensures small { array_vec_len reply.new.content ≤ 2048 }
 {
     let kind = match kind_of(c, &session.run) {
         Ok(kind) => kind,
-        Err(refusal) => return refused(refusal, session),
+        Err(refusal) => return refused(refusal, session, reply),
     };
     if c.body.len() > MAX_REQUEST {
-        return refused(LONG_REQUEST, session);
+        return refused(LONG_REQUEST, session, reply);
     }
-    carry_out(kind, session, store, cells, copro, c)
+    carry_out(kind, session, store, cells, copro, c, reply)
 }
 
 /// The response where nothing was heard that can be carried out.
-fn not_heard(refusal: Refusal, session: Session) -> Response
+fn not_heard(refusal: Refusal, session: Session, reply: &mut Reply) -> Response
     ensures plain { result.plain ≡ None }
-    ensures reaction { (result.reaction.rule ≡ refusal.rule) × (plain_reply result.reaction.reply ≡ status_alone refusal.status.0) }
+    ensures reaction { (result.reaction.rule ≡ refusal.rule) × (plain_reply reply.new ≡ status_alone refusal.status.0) }
     ensures left { (channel : Option ChannelState) → state_left result.reaction channel ≡ state_due refusal.rule.0 (ended_run (state session channel)) }
+    ensures small { array_vec_len reply.new.content ≤ 2048 }
 {
     Response {
         plain: None,
-        reaction: refused(refusal, session),
+        reaction: refused(refusal, session, reply),
     }
 }
 
@@ -148,20 +133,22 @@ fn respond<E: Eeprom, C: Coprocessor>(
     cells: &E,
     copro: &mut C,
     bytes: &[u8],
+    exchange: &mut Exchange,
 ) -> Response
     requires fits { stored.Fits store.now (E.device cells.now) (E.cells cells.now) }
     requires room { 2 ≤ C.spare copro.old }
-    ensures { Responds C.log C.spare C.faults C.told copro.old copro.new (held (E.cells cells.now)) session None bytes.now result }
+    ensures response { Responds C.log C.spare C.faults C.told copro.old copro.new (held (E.cells cells.now)) session None bytes.now (plain_in exchange.new result.plain) result.reaction (plain_reply exchange.new.answer) }
+    ensures small { array_vec_len exchange.new.answer.content ≤ 2048 }
 {
     let Ok(c) = read_command(bytes) else {
-        return not_heard(NO_COMMAND, session);
+        return not_heard(NO_COMMAND, session, &mut exchange.answer);
     };
-    if c.body.len() > MAX_BODY {
-        return not_heard(NO_COMMAND, session);
+    if c.body.len() > MAX_MESSAGE {
+        return not_heard(NO_COMMAND, session, &mut exchange.answer);
     }
     Response {
-        plain: Some(own(&c)),
-        reaction: react(session, store, cells, copro, &c),
+        plain: Some(apart(&c, &mut exchange.body)),
+        reaction: react(session, store, cells, copro, &c, &mut exchange.answer),
     }
 }
 
@@ -173,37 +160,23 @@ fn respond_in<E: Eeprom, C: Coprocessor>(
     cells: &E,
     copro: &mut C,
     bytes: &[u8],
+    exchange: &mut Exchange,
 ) -> Response
     requires fits { stored.Fits store.now (E.device cells.now) (E.cells cells.now) }
     requires room { 2 ≤ C.spare copro.old }
-    ensures response { Responds C.log C.spare C.faults C.told copro.old copro.new (held (E.cells cells.now)) session (Some channel.old) bytes.now result }
+    ensures response { Responds C.log C.spare C.faults C.told copro.old copro.new (held (E.cells cells.now)) session (Some channel.old) bytes.now (plain_in exchange.new result.plain) result.reaction (plain_reply exchange.new.answer) }
     ensures channel { Some channel.new ≡ heard_in result.reaction.rule.0 (Some channel.old) }
+    ensures small { array_vec_len exchange.new.answer.content ≤ 2048 }
 {
-    let mut body = ArrayVec::new();
-    let header = match channel.unwrap(bytes, &mut body) {
+    let header = match channel.unwrap(bytes, &mut exchange.body) {
         Ok(header) => header,
-        Err(SmError::Missing) => return not_heard(NO_OBJECTS, session),
-        Err(SmError::Wrong) => return not_heard(WRONG_OBJECTS, session),
+        Err(SmError::Missing) => return not_heard(NO_OBJECTS, session, &mut exchange.answer),
+        Err(SmError::Wrong) => return not_heard(WRONG_OBJECTS, session, &mut exchange.answer),
     };
-    let c = Command {
-        cla: header.cla,
-        ins: header.ins,
-        p1: header.p1,
-        p2: header.p2,
-        body: body.as_slice(),
-        ne: header.ne,
-    };
-    let reaction = react(session, store, cells, copro, &c);
+    let c = header.with_body(exchange.body.as_slice());
     Response {
-        plain: Some(Plain {
-            cla: header.cla,
-            ins: header.ins,
-            p1: header.p1,
-            p2: header.p2,
-            body,
-            ne: header.ne,
-        }),
-        reaction,
+        plain: Some(header),
+        reaction: react(session, store, cells, copro, &c, &mut exchange.answer),
     }
 }
 
@@ -215,30 +188,38 @@ fn respond_any<E: Eeprom, C: Coprocessor>(
     cells: &E,
     copro: &mut C,
     bytes: &[u8],
+    exchange: &mut Exchange,
 ) -> Response
     requires fits { stored.Fits store.now (E.device cells.now) (E.cells cells.now) }
     requires room { 2 ≤ C.spare copro.old }
-    ensures response { Responds C.log C.spare C.faults C.told copro.old copro.new (held (E.cells cells.now)) session channel.old bytes.now result }
+    ensures response { Responds C.log C.spare C.faults C.told copro.old copro.new (held (E.cells cells.now)) session channel.old bytes.now (plain_in exchange.new result.plain) result.reaction (plain_reply exchange.new.answer) }
     ensures channel { channel.new ≡ heard_in result.reaction.rule.0 channel.old }
+    ensures small { array_vec_len exchange.new.answer.content ≤ 2048 }
 {
     match channel {
-        None => respond(session, store, cells, copro, bytes),
-        Some(channel) => respond_in(channel, session, store, cells, copro, bytes),
+        None => respond(session, store, cells, copro, bytes, exchange),
+        Some(channel) => respond_in(channel, session, store, cells, copro, bytes, exchange),
     }
 }
 
-/// Writes a reply as it is sent: in a channel protected, but by the rules on the objects of secure
-/// messaging.
-fn send(channel: &mut Option<Channel>, reaction: &Reaction, out: &mut ArrayVec<u8, MAX_BODY>)
-    requires { array_vec_len out.old ≡ 0 }
-    ensures sent { out.new.items ≡ sent_next channel.old reaction.now.rule.0 (plain_reply reaction.now.reply) }
-    ensures channel { channel.new ≡ heard_in reaction.now.rule.0 channel.old }
+/// Writes a reply as it is sent, over what `out` held: in a channel protected, but by the rules on the
+/// objects of secure messaging.
+fn send(
+    channel: &mut Option<Channel>,
+    rule: Rule,
+    reply: &Reply,
+    out: &mut ArrayVec<u8, MAX_MESSAGE>,
+)
+    requires { array_vec_len reply.now.content ≤ 2048 }
+    ensures sent { out.new.items ≡ sent_next channel.old rule.0 (plain_reply reply.now) }
+    ensures channel { channel.new ≡ heard_in rule.0 channel.old }
 {
     match channel {
-        Some(channel) if reaction.rule.0 != 2 && reaction.rule.0 != 3 => {
-            channel.seal(&reaction.reply, out);
+        Some(channel) if rule.0 != 2 && rule.0 != 3 => channel.seal(reply, out),
+        _ => {
+            out.clear();
+            write_reply(reply, out).unwrap();
         }
-        _ => write_reply(&reaction.reply, out).unwrap(),
     }
 }
 
@@ -317,7 +298,8 @@ impl Chip {
         self.life = None;
     }
 
-    /// Handles the bytes of a command: answers them by the first failed rule, or carries them out.
+    /// Handles the bytes of a command: answers them by the first failed rule, or carries them out. The
+    /// body of the plain command, the answer and the bytes sent stand in the exchange, over what it held.
     /// `Silent` comes exactly where the chip is off. The coprocessor's log grows by the questions of the
     /// command.
     pub fn handle<E: Eeprom, C: Coprocessor>(
@@ -325,12 +307,14 @@ impl Chip {
         bytes: &[u8],
         cells: &mut E,
         copro: &mut C,
+        exchange: &mut Exchange,
     ) -> Handled
         requires sound { IsSound self.old (E.device cells.old) (E.cells cells.old) }
         requires room { 2 ≤ C.spare copro.old }
-        ensures handles { Handles C.log C.spare C.faults C.told copro.old copro.new self.old (E.device cells.old) (E.cells cells.old) self.new (E.device cells.new) (E.cells cells.new) bytes.now result }
+        ensures handles { Handles C.log C.spare C.faults C.told copro.old copro.new self.old (E.device cells.old) (E.cells cells.old) self.new (E.device cells.new) (E.cells cells.new) bytes.now result exchange.new }
         ensures sound { IsSound self.new (E.device cells.new) (E.cells cells.new) }
         ensures silent { is_silent result ≡ is_off self.old }
+        ensures unsaid { is_silent result ≡ true → exchange.new ≡ exchange.old }
         ensures same { E.cells cells.new ≡ E.cells cells.old }
     {
         let Some(running) = mem::replace(&mut self.life, None) else {
@@ -348,15 +332,14 @@ impl Chip {
             cells,
             copro,
             bytes,
+            exchange,
         );
-        let mut sent = ArrayVec::new();
-        send(&mut channel, &reaction, &mut sent);
         let Reaction {
             rule,
-            reply,
             session,
             opened,
         } = reaction;
+        send(&mut channel, rule, &exchange.answer, &mut exchange.sent);
         self.life = Some(Running {
             store,
             session,
@@ -366,8 +349,6 @@ impl Chip {
             plain,
             finished: 0,
             rule,
-            answer: reply,
-            sent,
         }
     }
 }

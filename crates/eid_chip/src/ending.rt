@@ -12,19 +12,16 @@ ghost use Rattle.eid_chip.specs.Steps.{state_left, state_due};
 use crate::reaction::Reaction;
 use crate::refusal::Refusal;
 use crate::session::Session;
-use arrayvec::ArrayVec;
 use eid_apdu::Reply;
 use eid_base::{Rule, Status};
 
-/// A reply without data.
-fn status_reply(status: Status) -> Reply
-    ensures plain { plain_reply result ≡ status_alone status.0 }
-    ensures small { array_vec_len result.content ≤ 2048 }
+/// Makes the reply one without data.
+fn put_status(status: Status, reply: &mut Reply)
+    ensures plain { plain_reply reply.new ≡ status_alone status.0 }
+    ensures small { array_vec_len reply.new.content ≤ 2048 }
 {
-    Reply {
-        content: ArrayVec::new(),
-        status,
-    }
+    reply.content.clear();
+    reply.status = status;
 }
 
 /// Whether a refusal by this rule ends the session: objects of secure messaging that are missing or
@@ -36,11 +33,13 @@ pub fn ends_session(rule: Rule) -> bool
 }
 
 /// A command that is refused ends the run, and by some rules the session.
-pub fn refused(refusal: Refusal, session: Session) -> Reaction
+pub fn refused(refusal: Refusal, session: Session, reply: &mut Reply) -> Reaction
     ensures rule { result.rule ≡ refusal.rule }
-    ensures reply { plain_reply result.reply ≡ status_alone refusal.status.0 }
+    ensures reply { plain_reply reply.new ≡ status_alone refusal.status.0 }
+    ensures small { array_vec_len reply.new.content ≤ 2048 }
     ensures left { (channel : Option ChannelState) → state_left result channel ≡ state_due refusal.rule.0 (ended_run (state session channel)) }
 {
+    put_status(refusal.status, reply);
     let session = if ends_session(refusal.rule) {
         Session::new()
     } else {
@@ -48,32 +47,26 @@ pub fn refused(refusal: Refusal, session: Session) -> Reaction
     };
     Reaction {
         rule: refusal.rule,
-        reply: status_reply(refusal.status),
         session,
         opened: None,
     }
 }
 
 /// A command that is carried out and answers no data.
-pub fn carried_out(session: Session) -> Reaction
-    ensures { (result.rule.0 ≡ 0) × (plain_reply result.reply ≡ status_alone 0x9000) × (result.session ≡ session) × (result.opened ≡ None) }
+pub fn carried_out(session: Session, reply: &mut Reply) -> Reaction
+    ensures did { (result.rule.0 ≡ 0) × (plain_reply reply.new ≡ status_alone 0x9000) × (result.session ≡ session) × (result.opened ≡ None) }
+    ensures small { array_vec_len reply.new.content ≤ 2048 }
 {
-    Reaction {
-        rule: Rule(0),
-        reply: status_reply(Status(0x9000)),
-        session,
-        opened: None,
-    }
+    put_status(Status(0x9000), reply);
+    answered(session)
 }
 
-/// A command that is carried out, and answers data.
-pub fn answered(reply: Reply, session: Session) -> Reaction
-    requires { array_vec_len reply.content ≤ 2048 }
-    ensures { (result.rule.0 ≡ 0) × (result.reply ≡ reply) × (result.session ≡ session) × (result.opened ≡ None) }
+/// A command that is carried out, and whose answer stands already.
+pub fn answered(session: Session) -> Reaction
+    ensures { (result.rule.0 ≡ 0) × (result.session ≡ session) × (result.opened ≡ None) }
 {
     Reaction {
         rule: Rule(0),
-        reply,
         session,
         opened: None,
     }

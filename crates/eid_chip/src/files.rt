@@ -16,7 +16,10 @@ use eid_record::{FileNo, Record};
 use eid_store::Store;
 
 /// How many bytes a file has at most.
-pub const MAX_FILE: usize = 2048;
+const MAX_FILE: usize = 2048;
+
+/// What is read over.
+const BLANK: [u8; MAX_FILE] = [0; MAX_FILE];
 
 /// EF.CardAccess (BSI TR-03110-3).
 pub const CARD_ACCESS: FileNo = FileNo(0);
@@ -85,25 +88,32 @@ fn read_part<E: Eeprom>(store: &Store, cells: &E, file: FileNo, offset: u16, int
     store.read_file(cells, file, offset, into);
 }
 
-/// Bytes of a file from an offset on, as the content of a reply.
-fn content_of<E: Eeprom>(
+/// Makes the content so many bytes to be read over.
+fn blank(content: &mut ArrayVec<u8, MAX_CONTENT>, count: usize)
+    requires { count ≤ 2048 }
+    ensures { array_vec_len content.new ≡ count }
+{
+    content.clear();
+    content.try_extend_from_slice(&BLANK[..count]).unwrap();
+}
+
+/// Makes bytes of a file from an offset on the content of a reply.
+fn put_content<E: Eeprom>(
     store: &Store,
     cells: &E,
     file: FileNo,
     offset: u16,
     count: usize,
-) -> ArrayVec<u8, MAX_CONTENT>
+    content: &mut ArrayVec<u8, MAX_CONTENT>,
+)
     requires fits { stored.Fits store.now (E.device cells.now) (E.cells cells.now) }
     requires there { IsSomeAnd (held_file (E.cells cells.now) file.0) (λ bytes. offset + count ≤ length bytes) }
     requires small { count ≤ 2048 }
-    ensures { result.items ≡ slice_range (unwrap_or (held_file (E.cells cells.now) file.0) []) offset (offset + count) }
+    ensures items { content.new.items ≡ slice_range (unwrap_or (held_file (E.cells cells.now) file.0) []) offset (offset + count) }
+    ensures size { array_vec_len content.new ≡ count }
 {
-    let mut data = [0u8; MAX_FILE];
-    let part = &mut data[..count];
-    read_part(store, cells, file, offset, part);
-    let mut content = ArrayVec::new();
-    content.try_extend_from_slice(part).unwrap();
-    content
+    blank(content, count);
+    read_part(store, cells, file, offset, content.as_mut_slice());
 }
 
 /// The status of a READ BINARY that found so many bytes: 6282 where they are fewer than were asked for
@@ -118,25 +128,24 @@ fn read_status(left: u16, ne: u32) -> Status
     }
 }
 
-/// What READ BINARY answers, where so many bytes of the file are left from its offset on
+/// Makes the reply what READ BINARY answers, where so many bytes of the file are left from its offset on
 /// (ISO/IEC 7816-4): as many as are there of those expected.
-pub fn read_answer<E: Eeprom>(
+pub fn put_answer<E: Eeprom>(
     store: &Store,
     cells: &E,
     file: FileNo,
     offset: u16,
     left: u16,
     ne: u32,
-) -> Reply
+    reply: &mut Reply,
+)
     requires fits { stored.Fits store.now (E.device cells.now) (E.cells cells.now) }
     requires there { option_map (λ bytes. length bytes) (held_file (E.cells cells.now) file.0) ≡ Some (offset + left) }
     requires small { left ≤ 2048 }
-    ensures reply { plain_reply result ≡ read_reply (drop offset (unwrap_or (held_file (E.cells cells.now) file.0) [])) ne }
-    ensures small { array_vec_len result.content ≤ 2048 }
+    ensures reply { plain_reply reply.new ≡ read_reply (drop offset (unwrap_or (held_file (E.cells cells.now) file.0) [])) ne }
+    ensures small { array_vec_len reply.new.content ≤ 2048 }
 {
     let count = usize::from(left).min(ne as usize);
-    Reply {
-        content: content_of(store, cells, file, offset, count),
-        status: read_status(left, ne),
-    }
+    put_content(store, cells, file, offset, count, &mut reply.content);
+    reply.status = read_status(left, ne);
 }

@@ -4,6 +4,7 @@
 mod authentication;
 mod chip;
 mod ending;
+mod exchange;
 mod files;
 mod naming;
 mod pace;
@@ -13,4 +14,5 @@ mod running;
 mod select;
 mod session;
 
-pub use chip::{Chip, Handled};
+pub use chip::Chip;
+pub use exchange::{Exchange, Handled};

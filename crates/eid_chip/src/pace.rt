@@ -15,7 +15,7 @@ ghost use Rattle.eid_model.specs.Sessions.{channel_after, memory_of};
 ghost use Rattle.eid_chip.specs.States.{memory, next_of, state};
 ghost use Rattle.eid_chip.specs.Steps.{Stepped, Told};
 
-use crate::authentication::{append, data_reply, is_no_data, point_in, reply_in_data, token_in};
+use crate::authentication::{append, is_no_data, point_in, put_data, put_in_data, token_in};
 use crate::ending::{answered, carried_out, refused};
 use crate::reaction::Reaction;
 use crate::refusal::{BODY_FORM, FAULT, NO_PASSWORD, NO_POINT, NO_STEP, SAME_POINT, WRONG_TOKEN};
@@ -33,16 +33,20 @@ use eid_store::Store;
 
 /// MSE:Set AT for PACE: a run begins with the password and the template that were chosen. Rule 10 is a body
 /// of another form, rule 11 a reference that is not the CAN's.
-pub fn select_pace(session: Session, c: &Command<'_>) -> Reaction
-    ensures { (kept : FullRecord) (channel : Option ChannelState) → Told Kind.SelectPace kept (state session channel) (plain_command c.now) [] result }
+pub fn select_pace(session: Session, c: &Command<'_>, reply: &mut Reply) -> Reaction
+    ensures told { (kept : FullRecord) (channel : Option ChannelState) → Told Kind.SelectPace kept (state session channel) (plain_command c.now) [] result (plain_reply reply.new) }
+    ensures small { array_vec_len reply.new.content ≤ 2048 }
 {
     match Chosen::select(c.body) {
-        Ok(chosen) => carried_out(Session {
-            run: Run::Chosen(chosen),
-            memory: session.memory,
-        }),
-        Err(Rule(10)) => refused(BODY_FORM, session),
-        Err(_) => refused(NO_PASSWORD, session),
+        Ok(chosen) => carried_out(
+            Session {
+                run: Run::Chosen(chosen),
+                memory: session.memory,
+            },
+            reply,
+        ),
+        Err(Rule(10)) => refused(BODY_FORM, session, reply),
+        Err(_) => refused(NO_PASSWORD, session, reply),
     }
 }
 
@@ -54,63 +58,67 @@ pub fn encrypted_nonce<E: Eeprom, C: Coprocessor>(
     cells: &E,
     copro: &mut C,
     c: &Command<'_>,
+    reply: &mut Reply,
 ) -> Reaction
     requires fits { stored.Fits store.now (E.device cells.now) (E.cells cells.now) }
     requires room { 2 ≤ C.spare copro.old }
     requires turn { next_of session.run ≡ Some Kind.EncryptedNonce }
-    ensures { Stepped C.log C.spare C.faults C.told copro.old copro.new Kind.EncryptedNonce (held (E.cells cells.now)) session (plain_command c.now) result }
+    ensures told { Stepped C.log C.spare C.faults C.told copro.old copro.new Kind.EncryptedNonce (held (E.cells cells.now)) session (plain_command c.now) result (plain_reply reply.new) }
+    ensures small { array_vec_len reply.new.content ≤ 2048 }
 {
     let _ = cells;
     if !is_no_data(c.body) {
-        return refused(BODY_FORM, session);
+        return refused(BODY_FORM, session, reply);
     }
     let Session { run, memory } = session;
     let Run::Chosen(chosen) = run else {
-        return refused(NO_STEP, idle(memory));
+        return refused(NO_STEP, idle(memory), reply);
     };
     match chosen.send_nonce(store.kept(), false, copro) {
         Ok(given) => {
             let (sent, encrypted) = given;
-            answered(
-                data_reply(0x80, &encrypted),
-                Session {
-                    run: Run::NonceSent(sent),
-                    memory,
-                },
-            )
+            put_data(0x80, &encrypted, reply);
+            answered(Session {
+                run: Run::NonceSent(sent),
+                memory,
+            })
         }
-        Err(_) => refused(FAULT, idle(memory)),
+        Err(_) => refused(FAULT, idle(memory), reply),
     }
 }
 
 /// The second step: the nonce is mapped to a base with the terminal's point in 81, and the chip's point is
 /// sent in 82. Rule 10 is a body of another form, rule 50 a fault of the coprocessor, rule 52 that the
 /// mapping is no point.
-pub fn map_nonce<C: Coprocessor>(session: Session, copro: &mut C, c: &Command<'_>) -> Reaction
+pub fn map_nonce<C: Coprocessor>(
+    session: Session,
+    copro: &mut C,
+    c: &Command<'_>,
+    reply: &mut Reply,
+) -> Reaction
     requires room { 2 ≤ C.spare copro.old }
     requires turn { next_of session.run ≡ Some Kind.MapNonce }
-    ensures { (kept : FullRecord) → Stepped C.log C.spare C.faults C.told copro.old copro.new Kind.MapNonce kept session (plain_command c.now) result }
+    ensures told { (kept : FullRecord) → Stepped C.log C.spare C.faults C.told copro.old copro.new Kind.MapNonce kept session (plain_command c.now) result (plain_reply reply.new) }
+    ensures small { array_vec_len reply.new.content ≤ 2048 }
 {
     let Some(peer) = point_in(c.body, 0x81) else {
-        return refused(BODY_FORM, session);
+        return refused(BODY_FORM, session, reply);
     };
     let Session { run, memory } = session;
     let Run::NonceSent(sent) = run else {
-        return refused(NO_STEP, idle(memory));
+        return refused(NO_STEP, idle(memory), reply);
     };
     match sent.map(&peer, copro) {
         Ok(given) => {
             let (mapped, public) = given;
-            answered(
-                data_reply(0x82, &public),
-                Session {
-                    run: Run::Mapped(mapped),
-                    memory,
-                },
-            )
+            put_data(0x82, &public, reply);
+            answered(Session {
+                run: Run::Mapped(mapped),
+                memory,
+            })
         }
-        Err(Rule(52)) => refused(NO_POINT, idle(memory)),
-        Err(_) => refused(FAULT, idle(memory)),
+        Err(Rule(52)) => refused(NO_POINT, idle(memory), reply),
+        Err(_) => refused(FAULT, idle(memory), reply),
     }
 }
 
@@ -121,32 +129,32 @@ pub fn perform_key_agreement<C: Coprocessor>(
     session: Session,
     copro: &mut C,
     c: &Command<'_>,
+    reply: &mut Reply,
 ) -> Reaction
     requires room { 2 ≤ C.spare copro.old }
     requires turn { next_of session.run ≡ Some Kind.PerformKeyAgreement }
-    ensures { (kept : FullRecord) → Stepped C.log C.spare C.faults C.told copro.old copro.new Kind.PerformKeyAgreement kept session (plain_command c.now) result }
+    ensures told { (kept : FullRecord) → Stepped C.log C.spare C.faults C.told copro.old copro.new Kind.PerformKeyAgreement kept session (plain_command c.now) result (plain_reply reply.new) }
+    ensures small { array_vec_len reply.new.content ≤ 2048 }
 {
     let Some(peer) = point_in(c.body, 0x83) else {
-        return refused(BODY_FORM, session);
+        return refused(BODY_FORM, session, reply);
     };
     let Session { run, memory } = session;
     let Run::Mapped(mapped) = run else {
-        return refused(NO_STEP, idle(memory));
+        return refused(NO_STEP, idle(memory), reply);
     };
     match mapped.agree(&peer, copro) {
         Ok(given) => {
             let (agreed, public) = given;
-            answered(
-                data_reply(0x84, &public),
-                Session {
-                    run: Run::Agreed(agreed),
-                    memory,
-                },
-            )
+            put_data(0x84, &public, reply);
+            answered(Session {
+                run: Run::Agreed(agreed),
+                memory,
+            })
         }
-        Err(Rule(51)) => refused(SAME_POINT, idle(memory)),
-        Err(Rule(52)) => refused(NO_POINT, idle(memory)),
-        Err(_) => refused(FAULT, idle(memory)),
+        Err(Rule(51)) => refused(SAME_POINT, idle(memory), reply),
+        Err(Rule(52)) => refused(NO_POINT, idle(memory), reply),
+        Err(_) => refused(FAULT, idle(memory), reply),
     }
 }
 
@@ -164,13 +172,13 @@ fn token_content(token: &[u8; 8], kept: &Record) -> ArrayVec<u8, 64>
     content
 }
 
-/// The last reply.
-fn token_reply(token: &[u8; 8], kept: &Record) -> Reply
-    ensures plain { plain_reply result ≡ data_alone (object 0x7C (object 0x86 token.now ++ object 0x87 (record_view kept.now).current.name ++ previous_name (record_view kept.now).previous)) }
-    ensures small { array_vec_len result.content ≤ 2048 }
+/// Makes the reply the last one.
+fn put_token(token: &[u8; 8], kept: &Record, reply: &mut Reply)
+    ensures plain { plain_reply reply.new ≡ data_alone (object 0x7C (object 0x86 token.now ++ object 0x87 (record_view kept.now).current.name ++ previous_name (record_view kept.now).previous)) }
+    ensures small { array_vec_len reply.new.content ≤ 2048 }
 {
     let inner = token_content(token, kept);
-    reply_in_data(inner.as_slice())
+    put_in_data(inner.as_slice(), reply);
 }
 
 /// What is kept of a PACE.
@@ -202,26 +210,28 @@ pub fn mutual_authentication<E: Eeprom>(
     store: &Store,
     cells: &E,
     c: &Command<'_>,
+    reply: &mut Reply,
 ) -> Reaction
     requires fits { stored.Fits store.now (E.device cells.now) (E.cells cells.now) }
     requires turn { next_of session.run ≡ Some Kind.MutualAuthentication }
-    ensures { (channel : Option ChannelState) → Told Kind.MutualAuthentication (held (E.cells cells.now)) (state session channel) (plain_command c.now) [] result }
+    ensures told { (channel : Option ChannelState) → Told Kind.MutualAuthentication (held (E.cells cells.now)) (state session channel) (plain_command c.now) [] result (plain_reply reply.new) }
+    ensures small { array_vec_len reply.new.content ≤ 2048 }
 {
     let _ = cells;
     let Some(token) = token_in(c.body) else {
-        return refused(BODY_FORM, session);
+        return refused(BODY_FORM, session, reply);
     };
     let Session { run, memory } = session;
     let Run::Agreed(agreed) = run else {
-        return refused(NO_STEP, idle(memory));
+        return refused(NO_STEP, idle(memory), reply);
     };
     let Ok(given) = agreed.check(&token, None) else {
-        return refused(WRONG_TOKEN, idle(memory));
+        return refused(WRONG_TOKEN, idle(memory), reply);
     };
     let (done, own_token) = given;
+    put_token(&own_token, store.kept(), reply);
     Reaction {
         rule: Rule(0),
-        reply: token_reply(&own_token, store.kept()),
         session: idle(Memory {
             selected: memory.selected,
             current: memory.current,

@@ -1,26 +1,20 @@
 //! How a step ends.
-ghost use Rattle.std.specs.Prelude.{◌≤◌};
-ghost use Rattle.arrayvec.specs.ArrayVec.{array_vec_len};
-
 use crate::session::Session;
-use eid_apdu::Reply;
 use eid_base::Rule;
-use eid_model::Plain;
-use eid_sm::Channel;
+use eid_sm::{Channel, Header};
 
-/// The first failed rule, or 0, the answer, the session after the step, and the channel that it opened.
+/// The first failed rule, or 0, the session after the step, and the channel that it opened. The answer
+/// stands beside it.
 #[derive(Drop)]
 pub struct Reaction {
     pub rule: Rule,
-    pub reply: Reply,
     pub session: Session,
     pub opened: Option<Channel>,
-    ghost small: { array_vec_len reply.content ≤ 2048 },
 }
 
-/// What was heard, and how it ended.
+/// What was heard, without its body, and how it ended.
 #[derive(Drop)]
 pub struct Response {
-    pub plain: Option<Plain>,
+    pub plain: Option<Header>,
     pub reaction: Reaction,
 }

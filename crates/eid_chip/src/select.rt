@@ -1,5 +1,7 @@
 //! SELECT and READ BINARY (ISO/IEC 7816-4).
 ghost use Rattle.std.specs.Prelude.{◌≡◌, ◌≤◌, ◌-◌, [], length, true, false, Option, Some, option_map, if◌then◌else◌};
+ghost use Rattle.arrayvec.specs.ArrayVec.{array_vec_len};
+ghost use Rattle.eid_apdu.specs.Answer.{plain_reply};
 ghost use Rattle.eid_apdu.specs.Command.{plain_command};
 ghost use Rattle.eid_record.specs.Plain.{FullRecord};
 ghost use Rattle.eid_store.specs.Store as stored;
@@ -11,13 +13,13 @@ ghost use Rattle.eid_chip.specs.States.{state, without_run};
 ghost use Rattle.eid_chip.specs.Steps.{Told, known};
 
 use crate::ending::{answered, carried_out, refused};
-use crate::files::{self, CARD_ACCESS, CARD_SECURITY, file_of_id, read_answer};
+use crate::files::{self, CARD_ACCESS, CARD_SECURITY, file_of_id, put_answer};
 use crate::reaction::Reaction;
 use crate::refusal::{
     BODY_FORM, NO_CURRENT_FILE, NO_FILE, NO_PACE, NO_TERMINAL, NOT_NAMED, OFFSET,
 };
 use crate::session::{Memory, Session, idle};
-use eid_apdu::Command;
+use eid_apdu::{Command, Reply};
 use eid_cells::Eeprom;
 use eid_model::Kind;
 use eid_record::FileNo;
@@ -27,51 +29,63 @@ use eid_store::Store;
 const APPLICATION_ID: [u8; 9] = [0xe8, 0x07, 0x04, 0x00, 0x7f, 0x00, 0x07, 0x03, 0x02];
 
 /// SELECT of the application.
-pub fn select_application(session: Session, c: &Command<'_>) -> Reaction
-    ensures { (kept : FullRecord) (channel : Option ChannelState) → Told Kind.SelectApplication kept (state session channel) (plain_command c.now) [] result }
+pub fn select_application(session: Session, c: &Command<'_>, reply: &mut Reply) -> Reaction
+    ensures told { (kept : FullRecord) (channel : Option ChannelState) → Told Kind.SelectApplication kept (state session channel) (plain_command c.now) [] result (plain_reply reply.new) }
+    ensures small { array_vec_len reply.new.content ≤ 2048 }
 {
     if c.body.is_empty() || c.body.len() > 16 {
-        return refused(BODY_FORM, session);
+        return refused(BODY_FORM, session, reply);
     }
     if c.body != APPLICATION_ID.as_slice() {
-        return refused(NOT_NAMED, session);
+        return refused(NOT_NAMED, session, reply);
     }
-    carried_out(idle(Memory {
-        selected: true,
-        current: None,
-        pace: session.memory.pace,
-    }))
+    carried_out(
+        idle(Memory {
+            selected: true,
+            current: None,
+            pace: session.memory.pace,
+        }),
+        reply,
+    )
 }
 
 /// SELECT of the master file.
-pub fn select_master_file(session: Session, c: &Command<'_>) -> Reaction
-    ensures { (kept : FullRecord) (channel : Option ChannelState) → Told Kind.SelectMasterFile kept (state session channel) (plain_command c.now) [] result }
+pub fn select_master_file(session: Session, c: &Command<'_>, reply: &mut Reply) -> Reaction
+    ensures told { (kept : FullRecord) (channel : Option ChannelState) → Told Kind.SelectMasterFile kept (state session channel) (plain_command c.now) [] result (plain_reply reply.new) }
+    ensures small { array_vec_len reply.new.content ≤ 2048 }
 {
     if !c.body.is_empty() && c.body != [0x3f, 0x00].as_slice() {
-        return refused(BODY_FORM, session);
+        return refused(BODY_FORM, session, reply);
     }
-    carried_out(idle(Memory {
-        selected: false,
-        current: None,
-        pace: session.memory.pace,
-    }))
+    carried_out(
+        idle(Memory {
+            selected: false,
+            current: None,
+            pace: session.memory.pace,
+        }),
+        reply,
+    )
 }
 
 /// SELECT of a file. It never tells whether the file is there.
-pub fn select_file(session: Session, c: &Command<'_>) -> Reaction
-    ensures { (kept : FullRecord) (channel : Option ChannelState) → Told Kind.SelectFile kept (state session channel) (plain_command c.now) [] result }
+pub fn select_file(session: Session, c: &Command<'_>, reply: &mut Reply) -> Reaction
+    ensures told { (kept : FullRecord) (channel : Option ChannelState) → Told Kind.SelectFile kept (state session channel) (plain_command c.now) [] result (plain_reply reply.new) }
+    ensures small { array_vec_len reply.new.content ≤ 2048 }
 {
     let [high, low] = c.body else {
-        return refused(BODY_FORM, session);
+        return refused(BODY_FORM, session, reply);
     };
     let Some(file) = file_of_id(u16::from(*high) * 256 + u16::from(*low)) else {
-        return refused(NOT_NAMED, session);
+        return refused(NOT_NAMED, session, reply);
     };
-    carried_out(idle(Memory {
-        selected: session.memory.selected,
-        current: Some(file),
-        pace: session.memory.pace,
-    }))
+    carried_out(
+        idle(Memory {
+            selected: session.memory.selected,
+            current: Some(file),
+            pace: session.memory.pace,
+        }),
+        reply,
+    )
 }
 
 /// The file that READ BINARY means: of its short identifier, or the current one.
@@ -120,34 +134,34 @@ pub fn read_binary<E: Eeprom>(
     store: &Store,
     cells: &E,
     c: &Command<'_>,
+    reply: &mut Reply,
 ) -> Reaction
     requires { stored.Fits store.now (E.device cells.now) (E.cells cells.now) }
-    ensures { (channel : Option ChannelState) → Told Kind.ReadBinary (held (E.cells cells.now)) (state session channel) (plain_command c.now) [] result }
+    ensures told { (channel : Option ChannelState) → Told Kind.ReadBinary (held (E.cells cells.now)) (state session channel) (plain_command c.now) [] result (plain_reply reply.new) }
+    ensures small { array_vec_len reply.new.content ≤ 2048 }
 {
     if !c.body.is_empty() {
-        return refused(BODY_FORM, session);
+        return refused(BODY_FORM, session, reply);
     }
     if c.p1 < 0x80 && session.memory.current.is_none() {
-        return refused(NO_CURRENT_FILE, session);
+        return refused(NO_CURRENT_FILE, session, reply);
     }
     let Some(file) = meant_file(&session, c) else {
-        return refused(NOT_NAMED, session);
+        return refused(NOT_NAMED, session, reply);
     };
     if file != CARD_ACCESS && session.memory.pace.is_none() {
-        return refused(NO_PACE, session);
+        return refused(NO_PACE, session, reply);
     }
     if file.0 > CARD_SECURITY.0 {
-        return refused(NO_TERMINAL, session);
+        return refused(NO_TERMINAL, session, reply);
     }
     let Some(length) = files::file_length(store, cells, file) else {
-        return refused(NO_FILE, session);
+        return refused(NO_FILE, session, reply);
     };
     let offset = meant_offset(c);
     if offset > length {
-        return refused(OFFSET, session);
+        return refused(OFFSET, session, reply);
     }
-    answered(
-        read_answer(store, cells, file, offset, length - offset, c.ne),
-        after_read(session, c, file),
-    )
+    put_answer(store, cells, file, offset, length - offset, c.ne, reply);
+    answered(after_read(session, c, file))
 }

@@ -8,5 +8,5 @@ mod text;
 
 pub use kind::Kind;
 pub use law::{law_fresh, law_one_journal};
-pub use moment::{Input, MAX_BODY, Moment, Plain};
-pub use text::trace_text;
+pub use moment::{Input, Moment};
+pub use text::Text;

@@ -1,15 +1,11 @@
 //! What happened at one moment.
-use arrayvec::ArrayVec;
-use eid_apdu::Reply;
+use eid_apdu::{Command, Reply};
 use eid_base::Rule;
 use eid_copro::Ask;
 
-/// The longest body of one command, in bytes.
-pub const MAX_BODY: usize = 2200;
-
 /// What came from outside.
-#[derive(Debug, Drop)]
-pub enum Input {
+#[derive(Clone, Copy, Debug)]
+pub enum Input<'a> {
     /// Power, and the commit number that was found, or none where mounting was cut.
     On {
         /// The number of commits since personalisation.
@@ -18,41 +14,24 @@ pub enum Input {
     /// Power was taken away.
     Off,
     /// The bytes of a command.
-    Apdu(Vec<u8>),
+    Apdu(&'a [u8]),
 }
 
-/// A command after secure messaging was taken off, with a body of its own.
-#[derive(Debug, Drop)]
-pub struct Plain {
-    /// The class byte.
-    pub cla: u8,
-    /// The instruction byte.
-    pub ins: u8,
-    /// The first parameter byte.
-    pub p1: u8,
-    /// The second parameter byte.
-    pub p2: u8,
-    /// The command data field.
-    pub body: ArrayVec<u8, MAX_BODY>,
-    /// How many bytes of reply data are expected at most; 0 where no length is expected.
-    pub ne: u32,
-}
-
-/// One moment of a journal.
-#[derive(Debug, Drop)]
-pub struct Moment {
+/// One moment of a journal, over bytes that stand elsewhere.
+#[derive(Clone, Copy, Debug)]
+pub struct Moment<'a> {
     /// What came.
-    pub input: Input,
+    pub input: Input<'a>,
     /// The plain command, where there is one.
-    pub plain: Option<Plain>,
+    pub plain: Option<Command<'a>>,
     /// The questions to the coprocessor with their answers, the first one first.
-    pub asks: Vec<Ask>,
+    pub asks: &'a [Ask],
     /// How many commits finished.
     pub finished: u8,
     /// The first failed rule, or 0.
     pub rule: Rule,
     /// The answer before secure messaging, where there is one.
-    pub answer: Option<Reply>,
+    pub answer: Option<&'a Reply>,
     /// The bytes sent, where there are any.
-    pub sent: Option<ArrayVec<u8, MAX_BODY>>,
+    pub sent: Option<&'a [u8]>,
 }

@@ -1,27 +1,61 @@
 //! Writing the text of a moment.
-ghost use Rattle.std.specs.Prelude.{◌≡◌, ◌++◌, OnOk, IfOk, codes, decimal, option_map};
+ghost use Rattle.std.specs.Prelude.{◌≡◌, [], ◌++◌, OnOk, codes, decimal, option_map};
 ghost use Rattle.hex.specs.Hex.{encode_lower};
 ghost use Rattle.eid_apdu.specs.Answer.{plain_reply, status_bytes, spelled};
+ghost use Rattle.eid_apdu.specs.Command.{plain_command};
 ghost use Rattle.eid_model.specs.Trace.{line, header_text, body_text, plain_text, bytes_text, answer_text, found_text, word_text, base_text, question_text, verdict_text, given_text, ask_text, asks_text, handled_text, command_lines, text};
 ghost use Rattle.eid_model.specs.View as view;
 
-use crate::moment::{Input, Moment, Plain};
-use eid_apdu::Reply;
+use crate::moment::{Input, Moment};
+use eid_apdu::{Command, Reply};
 use eid_base::{NoMemory, Point, Status};
 use eid_copro::{Answer, Ask, Question};
 use std::alloc::Global;
+use std::marker::Model;
 
-/// A text that grows.
+/// A text to which moments are appended, as a trace has them. A contract sees its bytes.
 #[derive(Drop)]
-struct Text {
+pub struct Text {
     alloc: Global,
     bytes: Vec<u8>,
 }
 
+impl Model for Text {
+    ghost use Rattle.std.specs.Prelude.{ℕ, List};
+
+    ghost Value = { List ℕ };
+
+    ghost view = { λ t. t.bytes.items };
+}
+
 impl Text {
+    /// An empty text.
+    pub fn new(alloc: Global) -> Text
+        ensures { result ≡ [] }
+    {
+        Text {
+            alloc,
+            bytes: Vec::new(alloc),
+        }
+    }
+
+    /// Its bytes.
+    pub fn as_bytes(&self) -> &[u8]
+        ensures { result.now ≡ self.now }
+    {
+        self.bytes.as_slice()
+    }
+
+    /// Takes its bytes away, and keeps their memory.
+    pub fn clear(&mut self)
+        ensures { self.new ≡ [] }
+    {
+        self.bytes.clear();
+    }
+
     /// Appends bytes as they are.
     fn put(&mut self, bytes: &[u8]) -> Result<(), NoMemory>
-        ensures { OnOk result (self.new.bytes.items ≡ self.old.bytes.items ++ bytes.now) }
+        ensures { OnOk result (self.new ≡ self.old ++ bytes.now) }
     {
         self.bytes.extend_from_slice(bytes)?;
         Ok(())
@@ -29,15 +63,19 @@ impl Text {
 
     /// Appends bytes in hexadecimal.
     fn put_hex(&mut self, bytes: &[u8]) -> Result<(), NoMemory>
-        ensures { OnOk result (self.new.bytes.items ≡ self.old.bytes.items ++ encode_lower bytes.now) }
+        ensures { OnOk result (self.new ≡ self.old ++ encode_lower bytes.now) }
     {
-        let digits = hex::encode(self.alloc, bytes)?;
-        self.put(digits.as_bytes())
+        let start = self.bytes.len();
+        // The digits take twice the room of the bytes.
+        self.put(bytes)?;
+        self.put(bytes)?;
+        hex::encode_to_slice(bytes, &mut self.bytes[start..]).unwrap();
+        Ok(())
     }
 
     /// Appends a number in decimal.
     fn put_decimal(&mut self, number: u32) -> Result<(), NoMemory>
-        ensures { OnOk result (self.new.bytes.items ≡ self.old.bytes.items ++ decimal number) }
+        ensures { OnOk result (self.new ≡ self.old ++ decimal number) }
     {
         let digits = number.to_string(self.alloc)?;
         self.put(digits.as_bytes())
@@ -45,7 +83,7 @@ impl Text {
 
     /// Appends a line: its label, and bytes in hexadecimal or `none`.
     fn put_bytes_line(&mut self, label: &[u8], bytes: Option<&[u8]>) -> Result<(), NoMemory>
-        ensures { OnOk result (self.new.bytes.items ≡ self.old.bytes.items ++ line label.now (bytes_text (option_map (λ b. b.now) bytes.entry))) }
+        ensures { OnOk result (self.new ≡ self.old ++ line label.now (bytes_text (option_map (λ b. b.now) bytes.entry))) }
     {
         self.put(label)?;
         match bytes {
@@ -57,7 +95,7 @@ impl Text {
 
     /// Appends a line: its label, and a number.
     fn put_number_line(&mut self, label: &[u8], number: u32) -> Result<(), NoMemory>
-        ensures { OnOk result (self.new.bytes.items ≡ self.old.bytes.items ++ line label.now (decimal number)) }
+        ensures { OnOk result (self.new ≡ self.old ++ line label.now (decimal number)) }
     {
         self.put(label)?;
         self.put_decimal(number)?;
@@ -65,8 +103,8 @@ impl Text {
     }
 
     /// Appends a header in hexadecimal: class, instruction and parameters.
-    fn put_header(&mut self, c: &Plain) -> Result<(), NoMemory>
-        ensures { OnOk result (self.new.bytes.items ≡ self.old.bytes.items ++ header_text (view.plain c.now)) }
+    fn put_header(&mut self, c: &Command<'_>) -> Result<(), NoMemory>
+        ensures { OnOk result (self.new ≡ self.old ++ header_text (plain_command c.now)) }
     {
         self.put_hex(&[c.cla])?;
         self.put(b" ")?;
@@ -77,7 +115,7 @@ impl Text {
 
     /// Appends a body in hexadecimal, or a dash.
     fn put_body(&mut self, body: &[u8]) -> Result<(), NoMemory>
-        ensures { OnOk result (self.new.bytes.items ≡ self.old.bytes.items ++ body_text body.now) }
+        ensures { OnOk result (self.new ≡ self.old ++ body_text body.now) }
     {
         if body.is_empty() {
             self.put(b"-")
@@ -87,22 +125,22 @@ impl Text {
     }
 
     /// Appends a plain command, or `none`.
-    fn put_plain(&mut self, plain: &Option<Plain>) -> Result<(), NoMemory>
-        ensures { OnOk result (self.new.bytes.items ≡ self.old.bytes.items ++ plain_text (option_map view.plain plain.now)) }
+    fn put_plain(&mut self, plain: &Option<Command<'_>>) -> Result<(), NoMemory>
+        ensures { OnOk result (self.new ≡ self.old ++ plain_text (option_map plain_command plain.now)) }
     {
         let Some(c) = plain else {
             return self.put(b"none");
         };
         self.put_header(c)?;
         self.put(b" ")?;
-        self.put_body(c.body.as_slice())?;
+        self.put_body(c.body)?;
         self.put(b" ")?;
         self.put_decimal(c.ne)
     }
 
     /// Appends the line of the plain command.
-    fn put_plain_line(&mut self, plain: &Option<Plain>) -> Result<(), NoMemory>
-        ensures { OnOk result (self.new.bytes.items ≡ self.old.bytes.items ++ line (codes " plain ") (plain_text (option_map view.plain plain.now))) }
+    fn put_plain_line(&mut self, plain: &Option<Command<'_>>) -> Result<(), NoMemory>
+        ensures { OnOk result (self.new ≡ self.old ++ line (codes " plain ") (plain_text (option_map plain_command plain.now))) }
     {
         self.put(b" plain ")?;
         self.put_plain(plain)?;
@@ -110,8 +148,8 @@ impl Text {
     }
 
     /// Appends the line of the answer: its data and status, or `none`.
-    fn put_answer_line(&mut self, answer: &Option<Reply>) -> Result<(), NoMemory>
-        ensures { OnOk result (self.new.bytes.items ≡ self.old.bytes.items ++ line (codes " answer ") (answer_text (option_map plain_reply answer.now))) }
+    fn put_answer_line(&mut self, answer: Option<&Reply>) -> Result<(), NoMemory>
+        ensures { OnOk result (self.new ≡ self.old ++ line (codes " answer ") (answer_text (option_map (λ reply. plain_reply reply.now) answer.entry))) }
     {
         self.put(b" answer ")?;
         match answer {
@@ -124,7 +162,7 @@ impl Text {
     /// Appends a reply in hexadecimal.
     #[tactic(auto, using(crate::proofs::Hexadecimal::encode_parts))]
     fn put_reply(&mut self, reply: &Reply) -> Result<(), NoMemory>
-        ensures { OnOk result (self.new.bytes.items ≡ self.old.bytes.items ++ encode_lower (spelled (plain_reply reply.now))) }
+        ensures { OnOk result (self.new ≡ self.old ++ encode_lower (spelled (plain_reply reply.now))) }
     {
         self.put_hex(reply.content.as_slice())?;
         self.put_status(reply.status)
@@ -132,14 +170,14 @@ impl Text {
 
     /// Appends a status in hexadecimal, SW1 first.
     fn put_status(&mut self, status: Status) -> Result<(), NoMemory>
-        ensures { OnOk result (self.new.bytes.items ≡ self.old.bytes.items ++ encode_lower (status_bytes status.0)) }
+        ensures { OnOk result (self.new ≡ self.old ++ encode_lower (status_bytes status.0)) }
     {
         self.put_hex(&status.0.to_be_bytes())
     }
 
     /// Appends a space, and bytes in hexadecimal.
     fn put_word(&mut self, bytes: &[u8]) -> Result<(), NoMemory>
-        ensures { OnOk result (self.new.bytes.items ≡ word_text self.old.bytes.items bytes.now) }
+        ensures { OnOk result (self.new ≡ word_text self.old bytes.now) }
     {
         self.put(b" ")?;
         self.put_hex(bytes)
@@ -147,7 +185,7 @@ impl Text {
 
     /// Appends a word, and behind it bytes in hexadecimal.
     fn put_one(&mut self, word: &[u8], bytes: &[u8]) -> Result<(), NoMemory>
-        ensures { OnOk result (self.new.bytes.items ≡ self.old.bytes.items ++ word_text word.now bytes.now) }
+        ensures { OnOk result (self.new ≡ self.old ++ word_text word.now bytes.now) }
     {
         self.put(word)?;
         self.put_word(bytes)
@@ -155,7 +193,7 @@ impl Text {
 
     /// Appends the question for a pair, over a base or over the generator.
     fn put_pair_question(&mut self, base: &Option<Point>) -> Result<(), NoMemory>
-        ensures { OnOk result (self.new.bytes.items ≡ self.old.bytes.items ++ base_text base.now) }
+        ensures { OnOk result (self.new ≡ self.old ++ base_text base.now) }
     {
         match base {
             None => self.put(b"pair -"),
@@ -165,7 +203,7 @@ impl Text {
 
     /// Appends a word, and behind it bytes in hexadecimal, twice.
     fn put_two(&mut self, word: &[u8], first: &[u8], second: &[u8]) -> Result<(), NoMemory>
-        ensures { OnOk result (self.new.bytes.items ≡ self.old.bytes.items ++ word_text (word_text word.now first.now) second.now) }
+        ensures { OnOk result (self.new ≡ self.old ++ word_text (word_text word.now first.now) second.now) }
     {
         self.put_one(word, first)?;
         self.put_word(second)
@@ -174,7 +212,7 @@ impl Text {
     /// Appends what the coprocessor was asked.
     #[tactic(auto, unfolding(crate::specs::Trace::question_text))]
     fn put_question(&mut self, question: &Question) -> Result<(), NoMemory>
-        ensures { OnOk result (self.new.bytes.items ≡ self.old.bytes.items ++ question_text question.now) }
+        ensures { OnOk result (self.new ≡ self.old ++ question_text question.now) }
     {
         match question {
             Question::Nonce => self.put(b"nonce"),
@@ -203,7 +241,7 @@ impl Text {
 
     /// Appends a verdict.
     fn put_verdict(&mut self, good: bool) -> Result<(), NoMemory>
-        ensures { OnOk result (self.new.bytes.items ≡ self.old.bytes.items ++ verdict_text good) }
+        ensures { OnOk result (self.new ≡ self.old ++ verdict_text good) }
     {
         if good {
             self.put(b"yes")
@@ -215,7 +253,7 @@ impl Text {
     /// Appends what the coprocessor answered.
     #[tactic(auto, unfolding(crate::specs::Trace::given_text))]
     fn put_given(&mut self, answer: &Answer) -> Result<(), NoMemory>
-        ensures { OnOk result (self.new.bytes.items ≡ self.old.bytes.items ++ given_text answer.now) }
+        ensures { OnOk result (self.new ≡ self.old ++ given_text answer.now) }
     {
         match answer {
             Answer::Nonce(nonce) => self.put_hex(nonce),
@@ -235,7 +273,7 @@ impl Text {
 
     /// Appends the line of a question with its answer.
     fn put_ask(&mut self, ask: &Ask) -> Result<(), NoMemory>
-        ensures { OnOk result (self.new.bytes.items ≡ self.old.bytes.items ++ ask_text ask.now) }
+        ensures { OnOk result (self.new ≡ self.old ++ ask_text ask.now) }
     {
         self.put(b" ask ")?;
         self.put_question(&ask.question)?;
@@ -246,7 +284,7 @@ impl Text {
 
     /// Appends a line for each question with its answer.
     fn put_asks(&mut self, asks: &[Ask]) -> Result<(), NoMemory>
-        ensures { OnOk result (self.new.bytes.items ≡ self.old.bytes.items ++ asks_text asks.now) }
+        ensures { OnOk result (self.new ≡ self.old ++ asks_text asks.now) }
     {
         for ask in asks {
             self.put_ask(ask)?;
@@ -255,20 +293,20 @@ impl Text {
     }
 
     /// Appends what the moment of a command says behind its bytes.
-    fn put_handled(&mut self, m: &Moment) -> Result<(), NoMemory>
-        ensures { OnOk result (self.new.bytes.items ≡ self.old.bytes.items ++ handled_text (view.moment m.now)) }
+    fn put_handled(&mut self, m: &Moment<'_>) -> Result<(), NoMemory>
+        ensures { OnOk result (self.new ≡ self.old ++ handled_text (view.moment m.now)) }
     {
         self.put_plain_line(&m.plain)?;
-        self.put_asks(m.asks.as_slice())?;
+        self.put_asks(m.asks)?;
         self.put_number_line(b" finished ", u32::from(m.finished))?;
         self.put_number_line(b" rule ", u32::from(m.rule.0))?;
-        self.put_answer_line(&m.answer)?;
-        self.put_bytes_line(b" sent ", m.sent.as_ref().map(|sent| sent.as_slice()))
+        self.put_answer_line(m.answer)?;
+        self.put_bytes_line(b" sent ", m.sent)
     }
 
     /// Appends the line of a power-on.
     fn put_on(&mut self, found: Option<u32>) -> Result<(), NoMemory>
-        ensures { OnOk result (self.new.bytes.items ≡ self.old.bytes.items ++ line (codes "on ") (found_text found)) }
+        ensures { OnOk result (self.new ≡ self.old ++ line (codes "on ") (found_text found)) }
     {
         match found {
             None => self.put(b"on lost\n"),
@@ -277,36 +315,24 @@ impl Text {
     }
 
     /// Appends the text of a command's moment.
-    fn put_command(&mut self, bytes: &[u8], m: &Moment) -> Result<(), NoMemory>
-        ensures { OnOk result (self.new.bytes.items ≡ self.old.bytes.items ++ command_lines bytes.now (view.moment m.now)) }
+    fn put_command(&mut self, bytes: &[u8], m: &Moment<'_>) -> Result<(), NoMemory>
+        ensures { OnOk result (self.new ≡ self.old ++ command_lines bytes.now (view.moment m.now)) }
     {
         self.put_bytes_line(b"apdu ", Some(bytes))?;
         self.put_handled(m)
     }
 
     /// Appends the text of a moment.
-    fn put_moment(&mut self, m: &Moment) -> Result<(), NoMemory>
-        ensures { OnOk result (self.new.bytes.items ≡ self.old.bytes.items ++ text (view.moment m.now)) }
+    ///
+    /// # Errors
+    /// `NoMemory` where memory for it is refused. A front of it may stand there then.
+    pub fn put_moment(&mut self, m: &Moment<'_>) -> Result<(), NoMemory>
+        ensures { OnOk result (self.new ≡ self.old ++ text (view.moment m.now)) }
     {
         match &m.input {
             Input::On { found } => self.put_on(*found),
             Input::Off => self.put(b"off\n"),
-            Input::Apdu(bytes) => self.put_command(bytes.as_slice(), m),
+            Input::Apdu(bytes) => self.put_command(bytes, m),
         }
     }
-}
-
-/// The text of a moment, as a trace has it.
-///
-/// # Errors
-/// `NoMemory` where memory for the text is refused.
-pub fn trace_text(alloc: Global, m: &Moment) -> Result<Vec<u8>, NoMemory>
-    ensures { IfOk result (λ written. written.items ≡ text (view.moment m.now)) }
-{
-    let mut out = Text {
-        alloc,
-        bytes: Vec::new(alloc),
-    };
-    out.put_moment(m)?;
-    Ok(out.bytes)
 }

@@ -1,9 +1,10 @@
 -- What a line made, and runs with one line more.
 use Rattle.std.proofs.Common.{◌≡◌, ◌≢◌, ℕ, ◌+◌, ◌<◌, ◌≤◌, true, IsTrue, List, [], ◌∷◌, ◌++◌, length, take, drop, get_or, map, Option, Some, None, Result, Ok, Err, refl, sym, ap, ◌∙◌, subst, append_assoc, append-nil, length-append, arith, inl, inr}
-use Rattle.std.specs.Prelude.{IsSome, OnErr, is_some, slice_index}
+use Rattle.std.specs.Prelude.{IsSome, OnOk, OnErr, is_some, slice_index}
 use Rattle.std.proofs.lemmas.List.{take_more, map-append, take-append-drop, drop_at}
-use Rattle.eid_base.specs.Seen.{SinkSeen, Grew}
+use Rattle.eid_base.specs.Seen.{SinkSeen, Grew, GrewByPart}
 use Rattle.eid_cells.specs.Device.{Device}
+use Rattle.eid_cells.specs.declared.tear.Tear.{Tear}
 use Rattle.eid_record.specs.Plain.{FullRecord}
 use Rattle.eid_store.specs.declared.durable.MountError.{MountError}
 use Rattle.eid_store.specs.declared.durable.MountError.TheVariants.{Cut, BadImage}
@@ -13,8 +14,9 @@ use Rattle.eid_model.specs.Moments.{PlainMoment, asked, is_steady}
 use Rattle.eid_model.specs.Trace.{text, trace}
 use Rattle.eid_chip.specs.declared.running.Running.{Running}
 use Rattle.eid_chip.specs.declared.chip.Chip.{Chip}
-use Rattle.eid_chip.specs.declared.chip.Handled.{Handled}
-use Rattle.eid_chip.specs.declared.chip.Handled.TheVariants.{Silent, Answered}
+use Rattle.eid_chip.specs.declared.exchange.Exchange.{Exchange}
+use Rattle.eid_chip.specs.declared.exchange.Handled.{Handled}
+use Rattle.eid_chip.specs.declared.exchange.Handled.TheVariants.{Silent, Answered}
 use Rattle.eid_chip.specs.Fits.{Fits, Follows, IsSound, IsSoundLife, handled, found, is_silent}
 use Rattle.eid_script.specs.declared.script.Line.{Line}
 use Rattle.eid_script.specs.Scripts.{ScriptLine, ApduLine, plain_line}
@@ -31,35 +33,50 @@ found_number (Err BadImage) cut bad = absurd (bad refl)
 pub some_is_not_none : {A : Type 0} (o : Option A) → IsSome o → o ≡ None → ⊥
 some_is_not_none o some none = absurd (cc)
 
-pub handled_line : (bytes : List ℕ) (asks : List Ask) (outcome : Handled) → line_for (handled bytes asks outcome).input ≡ ApduLine bytes
-handled_line bytes asks Silent = refl
-handled_line bytes asks (Answered plain finished rule answer sent) = refl
+pub handled_line : (bytes : List ℕ) (asks : List Ask) (outcome : Handled) (exchange : Exchange) → line_for (handled bytes asks outcome exchange).input ≡ ApduLine bytes
+handled_line bytes asks Silent exchange = refl
+handled_line bytes asks (Answered plain finished rule) exchange = refl
 
-pub handled_steady : (bytes : List ℕ) (asks : List Ask) (outcome : Handled) → is_steady (handled bytes asks outcome).input ≡ true
-handled_steady bytes asks Silent = refl
-handled_steady bytes asks (Answered plain finished rule answer sent) = refl
+pub handled_steady : (bytes : List ℕ) (asks : List Ask) (outcome : Handled) (exchange : Exchange) → is_steady (handled bytes asks outcome exchange).input ≡ true
+handled_steady bytes asks Silent exchange = refl
+handled_steady bytes asks (Answered plain finished rule) exchange = refl
 
 -- the moment has the questions that were put
-pub handled_asks : (bytes : List ℕ) (asks : List Ask) (outcome : Handled) → (is_silent outcome ≡ true → asks ≡ []) → (handled bytes asks outcome).asks ≡ asks
-handled_asks bytes asks Silent none = sym (none refl)
-handled_asks bytes asks (Answered plain finished rule answer sent) none = refl
+pub handled_asks : (bytes : List ℕ) (asks : List Ask) (outcome : Handled) (exchange : Exchange) → (is_silent outcome ≡ true → asks ≡ []) → (handled bytes asks outcome exchange).asks ≡ asks
+handled_asks bytes asks Silent exchange none = sym (none refl)
+handled_asks bytes asks (Answered plain finished rule) exchange none = refl
 
--- a command was handed over
-pub made_handled : (old new : Scene) (log room log_now : List Ask) (bytes : List ℕ) (asks : List Ask) (outcome : Handled) → room ≡ log → log_now ≡ room ++ asks → (is_silent outcome ≡ true → asks ≡ []) → Follows old.chip old.device old.cells new.chip new.device new.cells (handled bytes asks outcome)
-    → Made old new log log_now (ApduLine bytes) (Did (handled bytes asks outcome))
-made_handled old new log room log_now bytes asks outcome same logged none follows = record {
-  comes = follows;
-  logged = logged ∙ ap (λ (l : List Ask). l ++ asks) same ∙ ap (λ (l : List Ask). log ++ l) (sym (handled_asks bytes asks outcome none));
-  carried = handled_line bytes asks outcome;
-  steady = λ one. handled_steady bytes asks outcome;
-}
+-- a command was handed over, and these questions are told
+pub made_told : (old new : Scene) (log room log_now : List Ask) (bytes : List ℕ) (asks told : List Ask) (outcome : Handled) (exchange : Exchange) (m : PlainMoment) → room ≡ log → log_now ≡ room ++ asks → (is_silent outcome ≡ true → asks ≡ []) → Follows old.chip old.device old.cells new.chip new.device new.cells (handled bytes asks outcome exchange)
+    → told ≡ asks → m ≡ handled bytes told outcome exchange → Made old new log log_now (ApduLine bytes) (Did m)
+made_told old new log room log_now bytes asks told outcome exchange m same logged none follows so is =
+    made_of old new log log_now (ApduLine bytes) (handled bytes asks outcome exchange) m follows
+    (logged ∙ ap (λ (l : List Ask). l ++ asks) same ∙ ap (λ (l : List Ask). log ++ l) (sym (handled_asks bytes asks outcome exchange none)))
+    (handled_line bytes asks outcome exchange) (λ one. handled_steady bytes asks outcome exchange)
+    (is ∙ ap (λ (a : List Ask). handled bytes a outcome exchange) so)
 
-pub made_as : (old new : Scene) (log log_now : List Ask) (line : ScriptLine) (e m : PlainMoment) → m ≡ e → Made old new log log_now line (Did e) → Made old new log log_now line (Did m)
-made_as old new log log_now line e m same made = subst (λ (x : PlainMoment). Made old new log log_now line (Did x)) (sym same) made
+-- what holds on success, and on an error, by what follows from it
+pub on_ok : {A E P Q : Type 0} (r : Result A E) → (P → Q) → OnOk r P → OnOk r Q
+on_ok (Ok x) f p = f p
+on_ok (Err e) f p = _
 
-pub on_err : {A E : Type 0} (r : Result A E) (P : Type 0) → P → OnErr r P
-on_err (Ok x) P p = _
-on_err (Err e) P p = p
+pub on_err : {A E P Q : Type 0} (r : Result A E) → (P → Q) → OnErr r P → OnErr r Q
+on_err (Ok x) f p = _
+on_err (Err e) f p = f p
+
+-- a moment was made, and its text written, or a front of it
+pub did_line : (old new : Scene) (log log_now : List Ask) (line : ScriptLine) (m : PlainMoment) (before now : SinkSeen) → Made old new log log_now line (Did m) → (IsTrue before.tells → Grew before.written now.written (text m)) → DidLine old new log log_now line before now
+did_line old new log log_now line m before now made written = record { happened = Did m; made = made; written = written }
+
+pub part_of_line : (old new : Scene) (log log_now : List Ask) (line : ScriptLine) (m : PlainMoment) (before now : SinkSeen) → Made old new log log_now line (Did m) → (IsTrue before.tells → GrewByPart before.written now.written (text m)) → BrokeOffLine old new log log_now line before now
+part_of_line old new log log_now line m before now made written = inr (record { moment = m; made = made; written = written })
+
+pub made_same : (old new : Scene) (log : List Ask) (line : ScriptLine) (e m : PlainMoment) → m ≡ e → Made old new log log line (Did e) → Made old new log log line (Did m)
+made_same old new log line e m same made = subst (λ (x : PlainMoment). Made old new log log line (Did x)) (sym same) made
+
+-- a plan writes nothing
+pub planned_line : (old new : Scene) (log : List Ask) (line : ScriptLine) (write : ℕ) (tear : Tear) (seen : SinkSeen) → Made old new log log line (Planned write tear) → DidLine old new log log line seen seen
+planned_line old new log line write tear seen made = record { happened = Planned write tear; made = made; written = λ tells. sym (append-nil seen.written) }
 
 -- what was appended is what stands behind
 pub asks_behind : (log log_now asks : List Ask) → log_now ≡ log ++ asks → drop (length log) log_now ≡ asks

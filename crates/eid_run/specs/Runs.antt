@@ -1,5 +1,5 @@
 -- What a run of a script does: the moments that its lines make, and what is written of them.
-use Rattle.std.specs.Prelude.{◌≡◌, ◌⊎◌, ℕ, Bool, true, IsTrue, List, [], ◌∷◌, ◌++◌, Option, Some, None, slice_index}
+use Rattle.std.specs.Prelude.{◌≡◌, ◌⊎◌, ℕ, Bool, true, IsTrue, List, [], ◌∷◌, ◌++◌, Some, slice_index}
 use Rattle.eid_base.specs.Seen.{SinkSeen, IsFront, Grew, GrewByPart}
 use Rattle.eid_cells.specs.declared.tear.Tear.{Tear}
 use Rattle.eid_cells.specs.Device.{Device}
@@ -96,10 +96,6 @@ abbrev pub BrokeOffLine : Scene → Scene → List Ask → List Ask → ScriptLi
 BrokeOffLine old new log log_now line before now =
     ((new ≡ old) × (log_now ≡ log) × (IsTrue before.tells → now.written ≡ before.written)) ⊎ PartOfLine old new log log_now line before now
 
--- memory was wanting in a line: it did not happen, or its moment is not told
-abbrev pub Stopped : Scene → Scene → List Ask → List Ask → ScriptLine → Type 0
-Stopped old new log log_now line = ((new ≡ old) × (log_now ≡ log)) ⊎ ((m : PlainMoment) × Made old new log log_now line (Did m))
-
 -- a front of the trace, in which all moments but the newest are whole
 abbrev pub IsFrontOfTrace : List ℕ → List PlainMoment → Type 0
 IsFrontOfTrace written [] = written ≡ []
@@ -138,8 +134,3 @@ pub record DidSomeLines (opening : FullRecord) (lines : List ScriptLine) (old_ce
 
 abbrev pub scene : Chip → Device → List ℕ → Scene
 scene chip device cells = record { chip = chip; device = device; cells = cells }
-
--- what happened is this moment, or a plan where there is none
-abbrev pub IsOf : Happening → Option PlainMoment → Type 0
-IsOf (Did m) told = told ≡ Some m
-IsOf (Planned write tear) told = told ≡ None

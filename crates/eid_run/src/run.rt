@@ -1,23 +1,27 @@
 //! Running the lines of a script.
-ghost use Rattle.std.specs.Prelude.{◌≡◌, ◌≤◌, List, [], true, drop, length, Some, IsSome, IsTrue, IfOk, OnOk, OnErr, IsErrOf, map, option_map, slice_index};
+ghost use Rattle.std.specs.Prelude.{◌≡◌, ◌≤◌, List, drop, length, Some, IsSome, IsTrue, OnOk, OnErr, IsErrOf, map, option_map, slice_index};
 ghost use Rattle.eid_base.specs.Faults.{Rose};
 ghost use Rattle.eid_base.specs.Seen.{Grew, GrewByPart};
 ghost use Rattle.eid_record.specs.Plain.{FullRecord};
 ghost use Rattle.eid_copro.specs.declared.ask.Ask.{Ask as LogAsk};
 ghost use Rattle.eid_store.specs.Stands.{stands};
 ghost use Rattle.eid_model.specs.Legal as model;
-ghost use Rattle.eid_model.specs.Trace.{text};
+ghost use Rattle.eid_model.specs.Trace as trace;
 ghost use Rattle.eid_model.specs.View as view;
-ghost use Rattle.eid_chip.specs.Fits.{IsSound, found, handled, is_silent};
+ghost use Rattle.eid_apdu.specs.Command.{plain_command};
+ghost use Rattle.eid_sm.specs.Plain.{plain_of};
+ghost use Rattle.eid_chip.specs.Fits.{IsSound, found, handled};
 ghost use Rattle.eid_script.specs.Scripts.{plain_line, OnLine, OffLine, ApduLine, CutLine};
-ghost use Rattle.eid_run.specs.Runs.{scene, Happening, Did, Planned, IsOf, GoesOn, Made, Stopped, DidLine, BrokeOffLine, DidLines, DidSomeLines};
+ghost use Rattle.eid_run.specs.Runs.{scene, Did, Planned, GoesOn, Made, DidLine, BrokeOffLine, DidLines, DidSomeLines};
 
-use eid_base::{IoError, NoMemory, Rule, RunError, Sink};
+use eid_apdu::Command;
+use eid_base::{IoError, Rule, RunError, Sink};
 use eid_cells::{Eeprom, Tear};
-use eid_chip::{Chip, Handled};
+use eid_chip::{Chip, Exchange, Handled};
 use eid_copro::{Ask, Coprocessor};
-use eid_model::{Input, Moment, trace_text};
+use eid_model::{Input, Moment, Text};
 use eid_script::Line;
+use eid_sm::Header;
 use eid_store::MountError;
 use std::alloc::Global;
 
@@ -25,17 +29,18 @@ use std::alloc::Global;
 const QUESTIONS: usize = 2;
 
 /// Writes the text of a moment.
-fn tell<K: Sink>(alloc: Global, m: &Moment, out: &mut K) -> Result<(), RunError>
+fn tell<K: Sink>(m: &Moment<'_>, text: &mut Text, out: &mut K) -> Result<(), RunError>
     ensures tells { (K.seen out.new).tells ≡ (K.seen out.old).tells }
-    ensures whole { OnOk result (IsTrue (K.seen out.old).tells → Grew (K.seen out.old).written (K.seen out.new).written (text (view.moment m.now))) }
-    ensures part { OnErr result (IsTrue (K.seen out.old).tells → GrewByPart (K.seen out.old).written (K.seen out.new).written (text (view.moment m.now))) }
+    ensures whole { OnOk result (IsTrue (K.seen out.old).tells → Grew (K.seen out.old).written (K.seen out.new).written (trace.text (view.moment m.now))) }
+    ensures part { OnErr result (IsTrue (K.seen out.old).tells → GrewByPart (K.seen out.old).written (K.seen out.new).written (trace.text (view.moment m.now))) }
     ensures later { (K.seen out.old).faults ≤ (K.seen out.new).faults }
     ensures fault { IsErrOf result RunError.SinkFault → Rose (K.seen out.old).faults (K.seen out.new).faults }
 {
-    let Ok(text) = trace_text(alloc, m) else {
+    text.clear();
+    if text.put_moment(m).is_err() {
         return Err(RunError::NoMemory);
-    };
-    match out.put(text.as_slice()) {
+    }
+    match out.put(text.as_bytes()) {
         Ok(()) => Ok(()),
         Err(IoError::NoMemory) => Err(RunError::NoMemory),
         Err(_) => Err(RunError::SinkFault),
@@ -43,14 +48,13 @@ fn tell<K: Sink>(alloc: Global, m: &Moment, out: &mut K) -> Result<(), RunError>
 }
 
 /// A moment without answer and without questions.
-fn silent(input: Input, no_asks: Vec<Ask>) -> Moment
-    requires { no_asks.items ≡ [] }
-    ensures { view.moment result ≡ model.silent (view.event input) }
+fn silent(input: Input<'_>) -> Moment<'_>
+    ensures { view.moment result ≡ model.silent (view.event input.entry) }
 {
     Moment {
         input,
         plain: None,
-        asks: no_asks,
+        asks: &[],
         finished: 0,
         rule: Rule(0),
         answer: None,
@@ -58,27 +62,39 @@ fn silent(input: Input, no_asks: Vec<Ask>) -> Moment
     }
 }
 
-/// The moment of bytes that were handled so, with these questions.
-fn moment_of(bytes: Vec<u8>, asks: Vec<Ask>, outcome: Handled) -> Moment
-    requires { is_silent outcome ≡ true → asks.items ≡ [] }
-    ensures { view.moment result ≡ handled bytes.items asks.items outcome }
+/// The plain command with its body, where there is one.
+fn with_body<'a>(plain: Option<Header>, body: &'a [u8]) -> Option<Command<'a>>
+    ensures { option_map plain_command result ≡ option_map (λ header. plain_of header body.now) plain }
+{
+    match plain {
+        None => None,
+        Some(header) => Some(header.with_body(body)),
+    }
+}
+
+/// The moment of bytes that were handled so, with these questions and this exchange.
+fn moment_of<'a>(
+    bytes: &'a [u8],
+    asks: &'a [Ask],
+    outcome: Handled,
+    exchange: &'a Exchange,
+) -> Moment<'a>
+    ensures { view.moment result ≡ handled bytes.now asks.now outcome exchange.now }
 {
     match outcome {
-        Handled::Silent => silent(Input::Apdu(bytes), asks),
+        Handled::Silent => silent(Input::Apdu(bytes)),
         Handled::Answered {
             plain,
             finished,
             rule,
-            answer,
-            sent,
         } => Moment {
             input: Input::Apdu(bytes),
-            plain,
+            plain: with_body(plain, exchange.body.as_slice()),
             asks,
             finished,
             rule,
-            answer: Some(answer),
-            sent: Some(sent),
+            answer: Some(&exchange.answer),
+            sent: Some(exchange.sent.as_slice()),
         },
     }
 }
@@ -94,52 +110,58 @@ fn number_found(mounted: Result<u32, MountError>) -> Option<u32>
 }
 
 /// Gives the chip power.
-fn power_on<E: Eeprom>(alloc: Global, chip: &mut Chip, cells: &mut E) -> Moment
+fn power_on<'a, E: Eeprom>(chip: &mut Chip, cells: &mut E) -> Input<'a>
     requires { IsSome (stands (E.cells cells.old)) }
-    ensures made { (log : List LogAsk) → Made (scene chip.old (E.device cells.old) (E.cells cells.old)) (scene chip.new (E.device cells.new) (E.cells cells.new)) log log OnLine (Did (view.moment result)) }
+    ensures made { (log : List LogAsk) → Made (scene chip.old (E.device cells.old) (E.cells cells.old)) (scene chip.new (E.device cells.new) (E.cells cells.new)) log log OnLine (Did (model.silent (view.event result))) }
     ensures goes_on { GoesOn (scene chip.old (E.device cells.old) (E.cells cells.old)) (scene chip.new (E.device cells.new) (E.cells cells.new)) }
 {
     let found = number_found(chip.power_on(cells));
-    silent(Input::On { found }, Vec::new(alloc))
+    Input::On { found }
 }
 
 /// Takes power away from the chip.
-fn power_off<E: Eeprom>(alloc: Global, chip: &mut Chip, cells: &mut E) -> Moment
-    ensures made { (log : List LogAsk) → Made (scene chip.old (E.device cells.old) (E.cells cells.old)) (scene chip.new (E.device cells.new) (E.cells cells.new)) log log OffLine (Did (view.moment result)) }
+fn power_off<'a, E: Eeprom>(chip: &mut Chip, cells: &mut E) -> Input<'a>
+    ensures made { (log : List LogAsk) → Made (scene chip.old (E.device cells.old) (E.cells cells.old)) (scene chip.new (E.device cells.new) (E.cells cells.new)) log log OffLine (Did (model.silent (view.event result))) }
     ensures goes_on { GoesOn (scene chip.old (E.device cells.old) (E.cells cells.old)) (scene chip.new (E.device cells.new) (E.cells cells.new)) }
 {
     chip.power_off(cells);
-    silent(Input::Off, Vec::new(alloc))
+    Input::Off
 }
 
 /// The questions that were put since the log had so many.
-fn asks_since<C: Coprocessor>(alloc: Global, copro: &C, before: usize) -> Result<Vec<Ask>, NoMemory>
+fn asks_since<C: Coprocessor>(copro: &C, before: usize) -> &[Ask]
     requires { before ≤ length (C.log copro.now) }
-    ensures { IfOk result (λ asks. asks.items ≡ drop before (C.log copro.now)) }
+    ensures { result.now ≡ drop before (C.log copro.now) }
 {
-    Ok(Vec::from_slice(alloc, &copro.log()[before..])?)
+    &copro.log()[before..]
 }
 
-/// Hands the bytes of a command to the chip, with room for its questions.
-fn hand_over<E: Eeprom, C: Coprocessor>(
-    alloc: Global,
+/// Hands the bytes of a command to the chip, with room for its questions, and writes their moment.
+fn hand_over<E: Eeprom, C: Coprocessor, K: Sink>(
     chip: &mut Chip,
     bytes: &[u8],
     cells: &mut E,
     copro: &mut C,
-) -> Result<Moment, NoMemory>
+    exchange: &mut Exchange,
+    text: &mut Text,
+    out: &mut K,
+) -> Result<(), RunError>
     requires { IsSound chip.old (E.device cells.old) (E.cells cells.old) }
-    ensures made { IfOk result (λ m. Made (scene chip.old (E.device cells.old) (E.cells cells.old)) (scene chip.new (E.device cells.new) (E.cells cells.new)) (C.log copro.old) (C.log copro.new) (ApduLine bytes.now) (Did (view.moment m))) }
+    ensures did { OnOk result (DidLine (scene chip.old (E.device cells.old) (E.cells cells.old)) (scene chip.new (E.device cells.new) (E.cells cells.new)) (C.log copro.old) (C.log copro.new) (ApduLine bytes.now) (K.seen out.old) (K.seen out.new)) }
+    ensures broke { OnErr result (BrokeOffLine (scene chip.old (E.device cells.old) (E.cells cells.old)) (scene chip.new (E.device cells.new) (E.cells cells.new)) (C.log copro.old) (C.log copro.new) (ApduLine bytes.now) (K.seen out.old) (K.seen out.new)) }
     ensures goes_on { GoesOn (scene chip.old (E.device cells.old) (E.cells cells.old)) (scene chip.new (E.device cells.new) (E.cells cells.new)) }
-    ensures stopped { OnErr result (Stopped (scene chip.old (E.device cells.old) (E.cells cells.old)) (scene chip.new (E.device cells.new) (E.cells cells.new)) (C.log copro.old) (C.log copro.new) (ApduLine bytes.now)) }
     ensures told { C.told copro.new ≡ C.told copro.old }
+    ensures tells { (K.seen out.new).tells ≡ (K.seen out.old).tells }
+    ensures later { (K.seen out.old).faults ≤ (K.seen out.new).faults }
+    ensures fault { IsErrOf result RunError.SinkFault → Rose (K.seen out.old).faults (K.seen out.new).faults }
 {
-    let input = Vec::from_slice(alloc, bytes)?;
-    copro.make_room(QUESTIONS)?;
+    if copro.make_room(QUESTIONS).is_err() {
+        return Err(RunError::NoMemory);
+    }
     let before = copro.log().len();
-    let outcome = chip.handle(bytes, cells, copro);
-    let asks = asks_since(alloc, copro, before)?;
-    Ok(moment_of(input, asks, outcome))
+    let outcome = chip.handle(bytes, cells, copro, exchange);
+    let asks = asks_since(copro, before);
+    tell(&moment_of(bytes, asks, outcome, exchange), text, out)
 }
 
 /// Plans a cut of the device's power.
@@ -154,42 +176,14 @@ fn plan<E: Eeprom>(chip: &Chip, write: u32, tear: Tear, cells: &mut E)
     }
 }
 
-/// What a line comes to: a moment, or nothing to write.
-fn step<E: Eeprom, C: Coprocessor>(
-    alloc: Global,
-    chip: &mut Chip,
-    line: &Line,
-    cells: &mut E,
-    copro: &mut C,
-) -> Result<Option<Moment>, NoMemory>
-    requires sound { IsSound chip.old (E.device cells.old) (E.cells cells.old) }
-    requires stands { IsSome (stands (E.cells cells.old)) }
-    ensures made { IfOk result (λ m. (h : Happening) × IsOf h (option_map view.moment m) × Made (scene chip.old (E.device cells.old) (E.cells cells.old)) (scene chip.new (E.device cells.new) (E.cells cells.new)) (C.log copro.old) (C.log copro.new) (plain_line line.now) h) }
-    ensures goes_on { GoesOn (scene chip.old (E.device cells.old) (E.cells cells.old)) (scene chip.new (E.device cells.new) (E.cells cells.new)) }
-    ensures stopped { OnErr result (Stopped (scene chip.old (E.device cells.old) (E.cells cells.old)) (scene chip.new (E.device cells.new) (E.cells cells.new)) (C.log copro.old) (C.log copro.new) (plain_line line.now)) }
-    ensures told { C.told copro.new ≡ C.told copro.old }
-{
-    match line {
-        Line::On => Ok(Some(power_on(alloc, chip, cells))),
-        Line::Off => Ok(Some(power_off(alloc, chip, cells))),
-        Line::Apdu(bytes) => match hand_over(alloc, chip, bytes.as_slice(), cells, copro) {
-            Ok(m) => Ok(Some(m)),
-            Err(e) => Err(e),
-        },
-        Line::Cut { write, tear } => {
-            plan(chip, *write, *tear, cells);
-            Ok(None)
-        }
-    }
-}
-
 /// Carries out a line, and writes its moment.
 fn run_line<E: Eeprom, C: Coprocessor, K: Sink>(
-    alloc: Global,
     chip: &mut Chip,
     line: &Line,
     cells: &mut E,
     copro: &mut C,
+    exchange: &mut Exchange,
+    text: &mut Text,
     out: &mut K,
 ) -> Result<(), RunError>
     requires sound { IsSound chip.old (E.device cells.old) (E.cells cells.old) }
@@ -202,13 +196,14 @@ fn run_line<E: Eeprom, C: Coprocessor, K: Sink>(
     ensures later { (K.seen out.old).faults ≤ (K.seen out.new).faults }
     ensures fault { IsErrOf result RunError.SinkFault → Rose (K.seen out.old).faults (K.seen out.new).faults }
 {
-    let made = match step(alloc, chip, line, cells, copro) {
-        Ok(made) => made,
-        Err(_) => return Err(RunError::NoMemory),
-    };
-    match made {
-        Some(m) => tell(alloc, &m, out),
-        None => Ok(()),
+    match line {
+        Line::On => tell(&silent(power_on(chip, cells)), text, out),
+        Line::Off => tell(&silent(power_off(chip, cells)), text, out),
+        Line::Apdu(bytes) => hand_over(chip, bytes.as_slice(), cells, copro, exchange, text, out),
+        Line::Cut { write, tear } => {
+            plan(chip, *write, *tear, cells);
+            Ok(())
+        }
     }
 }
 
@@ -236,8 +231,10 @@ pub fn run_script<E: Eeprom, C: Coprocessor, K: Sink>(
     ensures fault { IsErrOf result RunError.SinkFault → Rose (K.seen out.old).faults (K.seen out.new).faults }
 {
     let mut chip = Chip::new();
+    let mut exchange = Exchange::new();
+    let mut text = Text::new(alloc);
     for line in lines {
-        if let Err(e) = run_line(alloc, &mut chip, line, cells, copro, out) {
+        if let Err(e) = run_line(&mut chip, line, cells, copro, &mut exchange, &mut text, out) {
             return Err(e);
         }
     }

@@ -2,6 +2,7 @@
 use Rattle.std.proofs.Common.{◌≡◌, ◌<◌, ◌≤◌, ℕ, List, length, ap, refl, Some, None, [], arith}
 use Rattle.eid_base.specs.declared.codes.Rule.{Rule}
 use Rattle.eid_apdu.specs.Command.{PlainCommand, Spells, plain_command}
+use Rattle.eid_apdu.specs.Answer.{plain_reply}
 use Rattle.eid_apdu.proofs.OneCommand.{spells_one}
 use Rattle.eid_model.specs.Rules.{NoCommand, Command}
 use Rattle.eid_chip.specs.Held.{held}
@@ -16,44 +17,44 @@ too_long bytes c d spelled other long short =
     let same : length c.body ≡ length d.body = ap (λ (x : PlainCommand). length x.body) (spells_one bytes c d spelled other) in
     omega arith
 
-pub returns-in_default : goal.returns-in_default
-returns-in_default g c =
+pub returns-in_default-clause-response : goal.returns-in_default-clause-response
+returns-in_default-clause-response g c =
     let copro = g.C.Coprocessor in
     let kept = held (g.E.Eeprom.cells c.args.cells.now) in
     record {
       heard = NoCommand;
       hears = λ d spelled short. c.in_default.ensures.only d spelled;
-      plain = rw c.not_heard.ensures.plain refl;
+      is_plain = rw c.not_heard.ensures.plain refl;
       asks = [];
       were_asked = not_asked copro.log copro.spare copro.faults copro.told c.args.copro.now;
       answers =
-          hearing_refused kept (state c.args.session None) NoCommand (record { rule = 1; status = 0x6700 }) c.not_heard.result.reaction refl refl
+          hearing_refused kept (state c.args.session None) NoCommand (record { rule = 1; status = 0x6700 }) c.not_heard.result.reaction (plain_reply c.not_heard.new.reply) refl refl
           (ap (λ (r : Rule). r.0) c.not_heard.ensures.reaction.0) c.not_heard.ensures.reaction.1 (c.not_heard.ensures.left None);
     }
 
-pub returns-then-c-gt-MAX_BODY : goal.returns-then-c-gt-MAX_BODY
-returns-then-c-gt-MAX_BODY g c =
+pub returns-then-c-gt-MAX_MESSAGE-clause-response : goal.returns-then-c-gt-MAX_MESSAGE-clause-response
+returns-then-c-gt-MAX_MESSAGE-clause-response g c =
     let copro = g.C.Coprocessor in
     let kept = held (g.E.Eeprom.cells c.args.cells.now) in
-    let refused = c.not_heard-then-c-gt-MAX_BODY in
+    let refused = c.not_heard-then-c-gt-MAX_MESSAGE in
     record {
       heard = NoCommand;
-      hears = λ d spelled short. too_long c.args.bytes.now (plain_command c.in-Ok.c) d c.in-Ok.ensures.found spelled c.if-c-gt-MAX_BODY.true short;
-      plain = rw refused.ensures.plain refl;
+      hears = λ d spelled short. too_long c.args.bytes.now (plain_command c.in-Ok.c) d c.in-Ok.ensures.found spelled c.if-c-gt-MAX_MESSAGE.true short;
+      is_plain = rw refused.ensures.plain refl;
       asks = [];
       were_asked = not_asked copro.log copro.spare copro.faults copro.told c.args.copro.now;
       answers =
-          hearing_refused kept (state c.args.session None) NoCommand (record { rule = 1; status = 0x6700 }) refused.result.reaction refl refl
+          hearing_refused kept (state c.args.session None) NoCommand (record { rule = 1; status = 0x6700 }) refused.result.reaction (plain_reply refused.new.reply) refl refl
           (ap (λ (r : Rule). r.0) refused.ensures.reaction.0) refused.ensures.reaction.1 (refused.ensures.left None);
     }
 
-pub returns : goal.returns
-returns g c =
-    let did = c.react.ensures in
+pub returns-clause-response : goal.returns-clause-response
+returns-clause-response g c =
+    let did = c.react.ensures.answers in
     record {
       heard = Command (plain_command c.in-Ok.c);
-      hears = (c.in-Ok.ensures.found, c.if-c-gt-MAX_BODY.false);
-      plain = ap Some c.own.ensures;
+      hears = (c.in-Ok.ensures.found, c.if-c-gt-MAX_MESSAGE.false);
+      is_plain = ap Some c.apart.ensures;
       asks = did.asks;
       were_asked = did.were_asked;
       answers = did.answers None;

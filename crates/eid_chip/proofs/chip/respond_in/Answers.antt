@@ -2,6 +2,7 @@
 use Rattle.std.proofs.Common.{ap, refl, Some, None, []}
 use Rattle.eid_base.specs.declared.codes.Rule.{Rule}
 use Rattle.eid_apdu.specs.Command.{plain_command}
+use Rattle.eid_apdu.specs.Answer.{plain_reply}
 use Rattle.eid_model.specs.Rules.{MissingObjects, WrongObjects, Command}
 use Rattle.eid_chip.specs.Held.{held}
 use Rattle.eid_chip.specs.States.{state}
@@ -16,11 +17,11 @@ returns-in-Err-Missing-clause-response g c =
     record {
       heard = MissingObjects;
       hears = c.unwrap.ensures.missing.0 (cc);
-      plain = rw c.not_heard.ensures.plain refl;
+      is_plain = rw c.not_heard.ensures.plain refl;
       asks = [];
       were_asked = not_asked copro.log copro.spare copro.faults copro.told c.args.copro.now;
       answers =
-          hearing_refused kept (state c.args.session (Some c.args.channel.now)) MissingObjects (record { rule = 2; status = 0x6987 }) c.not_heard.result.reaction refl refl
+          hearing_refused kept (state c.args.session (Some c.args.channel.now)) MissingObjects (record { rule = 2; status = 0x6987 }) c.not_heard.result.reaction (plain_reply c.not_heard.new.reply) refl refl
           (ap (λ (r : Rule). r.0) c.not_heard.ensures.reaction.0) c.not_heard.ensures.reaction.1 (c.not_heard.ensures.left (Some c.args.channel.now));
     }
 
@@ -32,21 +33,21 @@ returns-in-Err-Wrong-clause-response g c =
     record {
       heard = WrongObjects;
       hears = (λ lacks. let missing = c.unwrap.ensures.missing.1 lacks in absurd (cc), λ d protected. absurd (c.in-Err-Wrong.ensures.only d protected));
-      plain = rw refused.ensures.plain refl;
+      is_plain = rw refused.ensures.plain refl;
       asks = [];
       were_asked = not_asked copro.log copro.spare copro.faults copro.told c.args.copro.now;
       answers =
-          hearing_refused kept (state c.args.session (Some c.args.channel.now)) WrongObjects (record { rule = 3; status = 0x6988 }) refused.result.reaction refl refl
+          hearing_refused kept (state c.args.session (Some c.args.channel.now)) WrongObjects (record { rule = 3; status = 0x6988 }) refused.result.reaction (plain_reply refused.new.reply) refl refl
           (ap (λ (r : Rule). r.0) refused.ensures.reaction.0) refused.ensures.reaction.1 (refused.ensures.left (Some c.args.channel.now));
     }
 
 pub returns-clause-response : goal.returns-clause-response
 returns-clause-response g c =
-    let did = c.react-reaction.ensures in
+    let did = c.react.ensures.answers in
     record {
-      heard = Command (plain_command (record { cla = c.in-Ok.header.cla; ins = c.in-Ok.header.ins; p1 = c.in-Ok.header.p1; p2 = c.in-Ok.header.p2; body = c.as_slice.result; ne = c.in-Ok.header.ne }));
-      hears = rw c.as_slice.ensures.value c.in-Ok.ensures.found;
-      plain = rw c.as_slice.ensures.value refl;
+      heard = Command (plain_command c.with_body-c.result);
+      hears = rw (c.with_body-c.ensures, c.as_slice.ensures.value) c.in-Ok.ensures.found;
+      is_plain = rw (c.with_body-c.ensures, c.as_slice.ensures.value) refl;
       asks = did.asks;
       were_asked = did.were_asked;
       answers = did.answers (Some c.args.channel.now);
@@ -54,7 +55,7 @@ returns-clause-response g c =
 
 pub returns-clause-channel : goal.returns-clause-channel
 returns-clause-channel g c =
-    let did = c.react-reaction.ensures in
-    let heard = plain_command (record { cla = c.in-Ok.header.cla; ins = c.in-Ok.header.ins; p1 = c.in-Ok.header.p1; p2 = c.in-Ok.header.p2; body = c.as_slice.result; ne = c.in-Ok.header.ne }) in
-    let others = command_answered (held (g.E.Eeprom.cells c.args.cells.now)) (state c.args.session None) heard did.asks c.react-reaction.result (did.answers None) in
+    let did = c.react.ensures.answers in
+    let heard = plain_command c.with_body-c.result in
+    let others = command_answered (held (g.E.Eeprom.cells c.args.cells.now)) (state c.args.session None) heard did.asks c.react.result (plain_reply c.react.new.reply) (did.answers None) in
     rw others (ap Some c.in-Ok.ensures.counted)

@@ -13,21 +13,22 @@ use Rattle.eid_chip.proofs.HeldFiles.{held_fields}
 use Rattle.eid_chip.proofs.PaceSteps.{asked_none, no_empty_body, nonce_sent, went_on}
 use Rattle.eid_chip.proofs.pace.encrypted_nonce.Goals as goal
 
-pub returns-then-not-is_no_data : goal.returns-then-not-is_no_data
-returns-then-not-is_no_data g c = record {
+pub returns-then-not-is_no_data-clause-told : goal.returns-then-not-is_no_data-clause-told
+returns-then-not-is_no_data-clause-told g c = record {
   asks = [];
   were_asked = asked_none _ _ _ _ _;
-  tells = λ channel. no_empty_body _ (state c.args.session channel) (plain_command c.args.c.now) c.refused.result (sym c.if-not-is_no_data.ensures) (record {
+  tells = λ channel. no_empty_body _ (state c.args.session channel) (plain_command c.args.c.now) c.refused.result (plain_reply c.refused.new.reply) (sym c.if-not-is_no_data.ensures) (record {
     rule = ap (λ (r : Rule). r.0) c.refused.ensures.rule;
     answered = c.refused.ensures.reply;
     state = c.refused.ensures.left channel;
   });
 }
 
-pub returns-in-Ok : goal.returns-in-Ok
-returns-in-Ok g c =
+pub returns-in-Ok-clause-told : goal.returns-in-Ok-clause-told
+returns-in-Ok-clause-told g c =
     let ends = c.in-Ok.ensures in
     let done = c.answered.ensures in
+    let said = plain_reply c.put_data.new.reply in
     let cells = g.E.Eeprom.cells c.args.cells.now in
     let choice = chosen_view c.in-Chosen.chosen in
     let fields = c.kept.ensures ∙ sym (held_fields c.args.store.now (g.E.Eeprom.device c.args.cells.now) cells c.requires.fits) in
@@ -36,6 +37,6 @@ returns-in-Ok g c =
       asks = nonce_asks ends.end;
       were_asked = ends.asked;
       tells = λ channel.
-          nonce_sent (held cells) (state c.args.session channel) (plain_command c.args.c.now) choice ends.end (nonce_sent_view c.in-Ok.given.0) c.in-Ok.given.1 c.answered.result (ap phase_of c.in-Chosen.is) (sym c.if-not-is_no_data.ensures) gives
-          (went_on c.answered.result c.args.session channel _ _ done.0 (ap plain_reply done.1 ∙ c.data_reply.ensures.plain) done.3 done.2 refl);
+          nonce_sent (held cells) (state c.args.session channel) (plain_command c.args.c.now) choice ends.end (nonce_sent_view c.in-Ok.given.0) c.in-Ok.given.1 c.answered.result said (ap phase_of c.in-Chosen.is) (sym c.if-not-is_no_data.ensures) gives
+          (went_on c.answered.result said c.args.session channel _ _ done.0 c.put_data.ensures.plain done.2 done.1 refl);
     }

@@ -1,5 +1,5 @@
 -- The nonce was mapped to a base.
-use Rattle.std.proofs.Common.{[], refl, ap, ◌∙◌}
+use Rattle.std.proofs.Common.{[], refl, ap}
 use Rattle.eid_apdu.specs.Command.{plain_command}
 use Rattle.eid_apdu.specs.Answer.{plain_reply}
 use Rattle.eid_base.specs.declared.codes.Rule.{Rule}
@@ -9,27 +9,28 @@ use Rattle.eid_chip.specs.States.{state, phase_of}
 use Rattle.eid_chip.proofs.PaceSteps.{asked_none, no_point_to_map, mapped_to, went_on}
 use Rattle.eid_chip.proofs.pace.map_nonce.Goals as goal
 
-pub returns-in_default : goal.returns-in_default
-returns-in_default g c kept = record {
+pub returns-in_default-clause-told : goal.returns-in_default-clause-told
+returns-in_default-clause-told g c kept = record {
   asks = [];
   were_asked = asked_none _ _ _ _ _;
-  tells = λ channel. no_point_to_map kept (state c.args.session channel) (plain_command c.args.c.now) c.refused.result c.in_default.ensures.none (record {
+  tells = λ channel. no_point_to_map kept (state c.args.session channel) (plain_command c.args.c.now) c.refused.result (plain_reply c.refused.new.reply) c.in_default.ensures.none (record {
     rule = ap (λ (r : Rule). r.0) c.refused.ensures.rule;
     answered = c.refused.ensures.reply;
     state = c.refused.ensures.left channel;
   });
 }
 
-pub returns-in-Ok : goal.returns-in-Ok
-returns-in-Ok g c kept =
+pub returns-in-Ok-clause-told : goal.returns-in-Ok-clause-told
+returns-in-Ok-clause-told g c kept =
     let ends = c.in-Ok.ensures in
     let done = c.answered.ensures in
+    let said = plain_reply c.put_data.new.reply in
     let sent = nonce_sent_view c.in-NonceSent.sent in
     let body = c.in-Some.ensures.found in
     record {
       asks = map_asks sent c.in-Some.peer ends.end;
       were_asked = ends.asked;
       tells = λ channel.
-          mapped_to kept (state c.args.session channel) (plain_command c.args.c.now) sent c.in-Some.peer ends.end (mapped_view c.in-Ok.given.0) c.in-Ok.given.1 c.answered.result (ap phase_of c.in-NonceSent.is) body.0 body.1 ends.gives
-          (went_on c.answered.result c.args.session channel _ _ done.0 (ap plain_reply done.1 ∙ c.data_reply.ensures.plain) done.3 done.2 refl);
+          mapped_to kept (state c.args.session channel) (plain_command c.args.c.now) sent c.in-Some.peer ends.end (mapped_view c.in-Ok.given.0) c.in-Ok.given.1 c.answered.result said (ap phase_of c.in-NonceSent.is) body.0 body.1 ends.gives
+          (went_on c.answered.result said c.args.session channel _ _ done.0 c.put_data.ensures.plain done.2 done.1 refl);
     }

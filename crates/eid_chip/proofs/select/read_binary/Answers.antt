@@ -19,8 +19,8 @@ use Rattle.eid_chip.proofs.ReadSteps.{read_passes, read_answers, read_leaves}
 use Rattle.eid_chip.proofs.select.read_binary.Goals as goal
 use Rattle.eid_chip.proofs.select.read_binary.Goals.{else-c-lt128-via-then-c-lt128+else-is_none, else-c-lt128-via-else-c-lt128, else-ne-via-then-ne+else-is_none-2, else-ne-via-else-ne}
 
-pub returns : goal.returns
-returns g c = λ channel.
+pub returns-clause-told : goal.returns-clause-told
+returns-clause-told g c = λ channel.
     let kept = held (g.E.Eeprom.cells c.args.cells.now) in
     let current : (is_by_short (plain_command c.args.c.now) || is_some (state c.args.session channel).current) ≡ true =
     elim c.else-c-lt128.branch [ else-c-lt128-via-then-c-lt128+else-is_none w ↦ second_holds (is_by_short (plain_command c.args.c.now)) _ (some_after (λ (f : FileNo). f.0) c.args.session.memory.current ∙ w.if-is_none.ensures) | else-c-lt128-via-else-c-lt128 w ↦ let short : true ≡ nat_le 0x80 c.args.c.now.p1 = grind (arith, nat_tests) in first_holds _ _ short ] in
@@ -32,8 +32,9 @@ returns g c = λ channel.
     let passes = read_passes kept (state c.args.session channel) (plain_command c.args.c.now) c.in-Some.file.0 c.in-Some-file_length.length (sym c.if-not-is_empty.ensures) current meant pace group c.in-Some-file_length.ensures.length offset in
     let out = c.answered.ensures in
     let later = option_map two_messages_later channel in
-    let reply : plain_reply c.answered.result.reply ≡ read_reply (drop (offset_meant (plain_command c.args.c.now)) (unwrap_or (file_of kept (Some c.in-Some.file.0)) [])) c.args.c.now.ne =
-    ap plain_reply out.1 ∙ c.read_answer.ensures.reply ∙ ap (λ (n : ℕ). read_reply (drop n (unwrap_or (held_file (g.E.Eeprom.cells c.args.cells.now) c.in-Some.file.0) [])) c.args.c.now.ne) c.meant_offset-offset.ensures in
-    carried ReadBinary kept (state c.args.session channel) (plain_command c.args.c.now) c.answered.result refl passes out.0 out.3
+    let said = plain_reply c.put_answer.new.reply in
+    let reply : said ≡ read_reply (drop (offset_meant (plain_command c.args.c.now)) (unwrap_or (file_of kept (Some c.in-Some.file.0)) [])) c.args.c.now.ne =
+    c.put_answer.ensures.reply ∙ ap (λ (n : ℕ). read_reply (drop n (unwrap_or (held_file (g.E.Eeprom.cells c.args.cells.now) c.in-Some.file.0) [])) c.args.c.now.ne) c.meant_offset-offset.ensures in
+    carried ReadBinary kept (state c.args.session channel) (plain_command c.args.c.now) c.answered.result said refl passes out.0 out.2
     (reply ∙ read_answers kept (state c.args.session channel) (plain_command c.args.c.now) _ meant)
-    (ap (λ (s : Session). state s (option_map two_messages_later channel)) out.2 ∙ c.after_read.ensures later ∙ read_leaves kept (state c.args.session channel) (plain_command c.args.c.now) _ meant)
+    (ap (λ (s : Session). state s (option_map two_messages_later channel)) out.1 ∙ c.after_read.ensures later ∙ read_leaves kept (state c.args.session channel) (plain_command c.args.c.now) _ meant)

@@ -4,6 +4,7 @@ use Rattle.std.specs.Prelude.{nat_le, option_map}
 use Rattle.std.proofs.lemmas.Bool.Decides.{nat_tests}
 use Rattle.eid_model.specs.declared.kind.Kind.TheVariants.{SelectApplication}
 use Rattle.eid_apdu.specs.Command.{plain_command}
+use Rattle.eid_apdu.specs.Answer.{plain_reply}
 use Rattle.eid_model.specs.Kinds.{application_id}
 use Rattle.eid_model.specs.Sessions.{two_messages_later}
 use Rattle.eid_chip.specs.declared.session.Session.{Session}
@@ -12,12 +13,12 @@ use Rattle.eid_chip.proofs.CarriedOut.{carried, idle_state}
 use Rattle.eid_chip.proofs.Selections.{same_of, filled, application_passes, application_leaves}
 use Rattle.eid_chip.proofs.select.select_application.Goals as goal
 
-pub returns : goal.returns
-returns c = λ kept channel.
+pub returns-clause-told : goal.returns-clause-told
+returns-clause-told c = λ kept channel.
     let few : nat_le (length c.args.c.now.body.now) 16 ≡ true = grind (arith, nat_tests) in
     let same = same_of c.args.c.now.body.now _ application_id c.if-ne.ensures c.as_slice.ensures in
     let passes = application_passes kept (state c.args.session channel) (plain_command c.args.c.now) (filled _ c.if-is_empty.ensures) few same in
     let later = option_map two_messages_later channel in
-    let out = c.carried_out.ensures in
-    carried SelectApplication kept (state c.args.session channel) (plain_command c.args.c.now) c.carried_out.result refl passes out.0 out.3 out.1
+    let out = c.carried_out.ensures.did in
+    carried SelectApplication kept (state c.args.session channel) (plain_command c.args.c.now) c.carried_out.result (plain_reply c.carried_out.new.reply) refl passes out.0 out.3 out.1
     (ap (λ (s : Session). state s (option_map two_messages_later channel)) out.2 ∙ idle_state c.idle.result _ later c.idle.ensures.0 c.idle.ensures.1 ∙ application_leaves (state c.args.session channel) (plain_command c.args.c.now))

@@ -27,9 +27,10 @@ returns-clause-handles g c =
     let did = c.respond_any-plain.ensures.response in
     let running = c.in-Some.running in
     let r = c.respond_any-plain.result.reaction in
+    let said = plain_reply c.respond_any-plain.new.exchange.answer in
     let heard : c.respond_any-plain.new.channel ≡ heard_in r.rule.0 running.channel = c.respond_any-plain.ensures.channel in
     let written : c.send.new.out.items ≡ _ =
-    c.send.ensures.sent ∙ ap (λ (ch : Option ChannelState). sent_next ch r.rule.0 (plain_reply r.reply)) heard ∙ sent_so running.channel r.rule.0 (plain_reply r.reply) in
+    c.send.ensures.sent ∙ ap (λ (ch : Option ChannelState). sent_next ch r.rule.0 said) heard ∙ sent_so running.channel r.rule.0 said in
     let kept : c.channel_after.result ≡ _ =
     c.channel_after.ensures
     ∙ ap (λ (ch : Option ChannelState). if ends_session_by r.rule.0 then None else option_or r.opened ch) (c.send.ensures.channel ∙ ap (heard_in r.rule.0) heard)
@@ -39,6 +40,6 @@ returns-clause-handles g c =
       were_asked = did.were_asked;
       unasked = λ silent. absurd (cc);
       follows =
-          chip_responds c.args.self.now running (g.E.Eeprom.device c.args.cells.now) (g.E.Eeprom.cells c.args.cells.now) c.args.bytes.now did.heard _ did.asks r
-          c.send.new.out.items c.channel_after.result (sym c.replace.ensures.value ∙ c.in-Some.is) written kept did.hears did.plain did.answers;
+          chip_responds c.args.self.now running (g.E.Eeprom.device c.args.cells.now) (g.E.Eeprom.cells c.args.cells.now) c.args.bytes.now did.heard _ did.asks r said
+          c.send.new.out.items c.channel_after.result (sym c.replace.ensures.value ∙ c.in-Some.is) written kept did.hears did.is_plain did.answers;
     }
