@@ -1,6 +1,7 @@
 //! The program over a folder and a sink in memory. Whole traces were computed by a separate simulator
 //! in Python, written from the standard and not from this program.
 mod images;
+mod moment;
 mod pace;
 mod replay;
 mod traces;

@@ -1,6 +1,6 @@
 -- The selections that are carried out fail no rule.
-use Rattle.std.proofs.Common.{◌≡◌, ℕ, Bool, true, false, ◌==◌, ◌||◌, not, List, [], ◌∷◌, ◌++◌, length, Option, None, Some, refl, arith}
-use Rattle.std.specs.Prelude.{nat_le, is_some, option_map}
+use Rattle.std.proofs.Common.{◌≡◌, ℕ, ◌≤◌, Bool, true, false, ◌==◌, ◌||◌, not, List, [], ◌∷◌, ◌++◌, length, Option, None, Some, refl, arith}
+use Rattle.std.specs.Prelude.{nat_le, nat_lt, is_some, option_map}
 use Rattle.std.specs.Str.{bytes_eq}
 use Rattle.std.proofs.lemmas.Bool.Decides.{nat_tests}
 use Rattle.eid_apdu.specs.Command.{PlainCommand}
@@ -22,6 +22,9 @@ same_of a x b differs is = rw (← is) (not_false (bytes_eq a x) differs)
 
 pub filled : (n : ℕ) → false ≡ (n == 0) → nat_le 1 n ≡ true
 filled n e = grind (arith, nat_tests)
+
+pub not_above : (n m : ℕ) → m ≤ n → nat_lt n m ≡ false
+not_above n m e = grind (arith, nat_tests)
 
 pub first_holds : (a b : Bool) → true ≡ a → (a || b) ≡ true
 first_holds a b e = rw (← e) refl

@@ -20,7 +20,7 @@ ghost use Rattle.eid_chip.specs.States.{next_of, state};
 ghost use Rattle.eid_chip.specs.Steps.{Reacts, Responds, Stepped, heard_in, plain_in, sent_next, state_due, state_left};
 
 use crate::ending::{ends_session, refused};
-use crate::exchange::{Exchange, Handled};
+use crate::exchange::{Exchange, Handled, HandledIn};
 use crate::naming::kind_of;
 use crate::pace::{
     encrypted_nonce, map_nonce, mutual_authentication, perform_key_agreement, select_pace,
@@ -243,7 +243,7 @@ pub struct Chip {
 }
 
 impl Chip {
-    ghost use Rattle.eid_chip.specs.Fits.{Follows, Handles, IsSound, found, is_silent, is_off};
+    ghost use Rattle.eid_chip.specs.Fits.{Follows, Handles, IsSound, found, handled, handled_in, is_silent, is_silent_in, is_off};
 
     /// A chip without power.
     pub fn new() -> Chip
@@ -298,8 +298,7 @@ impl Chip {
         self.life = None;
     }
 
-    /// Handles the bytes of a command: answers them by the first failed rule, or carries them out. The
-    /// body of the plain command, the answer and the bytes sent stand in the exchange, over what it held.
+    /// Handles the bytes of a command: answers them by the first failed rule, or carries them out.
     /// `Silent` comes exactly where the chip is off. The coprocessor's log grows by the questions of the
     /// command.
     pub fn handle<E: Eeprom, C: Coprocessor>(
@@ -307,18 +306,38 @@ impl Chip {
         bytes: &[u8],
         cells: &mut E,
         copro: &mut C,
-        exchange: &mut Exchange,
     ) -> Handled
         requires sound { IsSound self.old (E.device cells.old) (E.cells cells.old) }
         requires room { 2 ≤ C.spare copro.old }
-        ensures handles { Handles C.log C.spare C.faults C.told copro.old copro.new self.old (E.device cells.old) (E.cells cells.old) self.new (E.device cells.new) (E.cells cells.new) bytes.now result exchange.new }
+        ensures handles { Handles C.log C.spare C.faults C.told copro.old copro.new self.old (E.device cells.old) (E.cells cells.old) self.new (E.device cells.new) (E.cells cells.new) (is_silent result) (λ asks. handled bytes.now asks result) }
         ensures sound { IsSound self.new (E.device cells.new) (E.cells cells.new) }
         ensures silent { is_silent result ≡ is_off self.old }
-        ensures unsaid { is_silent result ≡ true → exchange.new ≡ exchange.old }
+        ensures same { E.cells cells.new ≡ E.cells cells.old }
+    {
+        let mut exchange = Exchange::new();
+        let came = self.handle_in(bytes, cells, copro, &mut exchange);
+        came.with(exchange)
+    }
+
+    /// As `handle`, in an exchange that is lent: the body of the plain command, the answer and the bytes
+    /// sent stand there, over what it held.
+    pub fn handle_in<E: Eeprom, C: Coprocessor>(
+        &mut self,
+        bytes: &[u8],
+        cells: &mut E,
+        copro: &mut C,
+        exchange: &mut Exchange,
+    ) -> HandledIn
+        requires sound { IsSound self.old (E.device cells.old) (E.cells cells.old) }
+        requires room { 2 ≤ C.spare copro.old }
+        ensures handles { Handles C.log C.spare C.faults C.told copro.old copro.new self.old (E.device cells.old) (E.cells cells.old) self.new (E.device cells.new) (E.cells cells.new) (is_silent_in result) (λ asks. handled_in bytes.now asks result exchange.new) }
+        ensures sound { IsSound self.new (E.device cells.new) (E.cells cells.new) }
+        ensures silent { is_silent_in result ≡ is_off self.old }
+        ensures unsaid { is_silent_in result ≡ true → exchange.new ≡ exchange.old }
         ensures same { E.cells cells.new ≡ E.cells cells.old }
     {
         let Some(running) = mem::replace(&mut self.life, None) else {
-            return Handled::Silent;
+            return HandledIn::Silent;
         };
         let Running {
             store,
@@ -345,7 +364,7 @@ impl Chip {
             session,
             channel: channel_after(rule, opened, channel),
         });
-        Handled::Answered {
+        HandledIn::Answered {
             plain,
             finished: 0,
             rule,

@@ -1,11 +1,14 @@
 //! What the chip hears and says of one command.
-ghost use Rattle.std.specs.Prelude.{◌≡◌, []};
+ghost use Rattle.std.specs.Prelude.{◌≡◌, [], option_map};
 ghost use Rattle.eid_apdu.specs.Answer.{plain_reply};
 ghost use Rattle.eid_model.specs.Answers.{status_alone};
+ghost use Rattle.eid_model.specs.View as view;
+ghost use Rattle.eid_sm.specs.Plain.{plain_of};
 
 use arrayvec::ArrayVec;
 use eid_apdu::Reply;
 use eid_base::{Rule, Status};
+use eid_model::{MAX_BODY, Plain};
 use eid_sm::{Header, MAX_MESSAGE};
 
 /// The bytes of one command and its answer. It is kept from one command to the next, so that no buffer
@@ -40,7 +43,7 @@ impl Exchange {
 
 /// What came of the bytes of a command, beside the bytes of its exchange.
 #[derive(Clone, Copy, Debug)]
-pub enum Handled {
+pub enum HandledIn {
     /// The chip has no power.
     Silent,
     /// The chip answered.
@@ -52,4 +55,75 @@ pub enum Handled {
         /// The first failed rule, or 0.
         rule: Rule,
     },
+}
+
+/// What came of the bytes of a command.
+#[derive(Debug, Drop)]
+pub enum Handled {
+    /// The chip has no power.
+    Silent,
+    /// The chip answered.
+    Answered {
+        /// The plain command, where the bytes are one.
+        plain: Option<Plain>,
+        /// How many commits finished.
+        finished: u8,
+        /// The first failed rule, or 0.
+        rule: Rule,
+        /// The answer before secure messaging.
+        answer: Reply,
+        /// The bytes sent.
+        sent: ArrayVec<u8, MAX_BODY>,
+    },
+}
+
+/// A plain command with a body of its own.
+fn plain_with(header: Header, body: ArrayVec<u8, MAX_BODY>) -> Plain
+    ensures { view.plain result ≡ plain_of header body.items }
+{
+    Plain {
+        cla: header.cla,
+        ins: header.ins,
+        p1: header.p1,
+        p2: header.p2,
+        body,
+        ne: header.ne,
+    }
+}
+
+/// The plain command with a body of its own, where there is one.
+fn own_plain(plain: Option<Header>, body: ArrayVec<u8, MAX_BODY>) -> Option<Plain>
+    ensures { option_map view.plain result ≡ option_map (λ header. plain_of header body.items) plain }
+{
+    match plain {
+        None => None,
+        Some(header) => Some(plain_with(header, body)),
+    }
+}
+
+impl HandledIn {
+    ghost use Rattle.std.specs.Prelude.{ℕ, List};
+    ghost use Rattle.eid_copro.specs.declared.ask.Ask.{Ask};
+    ghost use Rattle.eid_chip.specs.Fits.{handled, handled_in, is_silent, is_silent_in};
+
+    /// The same with the bytes of its exchange.
+    pub fn with(self, exchange: Exchange) -> Handled
+        ensures same { (bytes : List ℕ) (asks : List Ask) → handled bytes asks result ≡ handled_in bytes asks self exchange }
+        ensures silent { is_silent result ≡ is_silent_in self }
+    {
+        match self {
+            HandledIn::Silent => Handled::Silent,
+            HandledIn::Answered {
+                plain,
+                finished,
+                rule,
+            } => Handled::Answered {
+                plain: own_plain(plain, exchange.body),
+                finished,
+                rule,
+                answer: exchange.answer,
+                sent: exchange.sent,
+            },
+        }
+    }
 }

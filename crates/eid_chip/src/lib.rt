@@ -15,4 +15,4 @@ mod select;
 mod session;
 
 pub use chip::Chip;
-pub use exchange::{Exchange, Handled};
+pub use exchange::{Exchange, Handled, HandledIn};

@@ -8,5 +8,5 @@ mod text;
 
 pub use kind::Kind;
 pub use law::{law_fresh, law_one_journal};
-pub use moment::{Input, Moment};
-pub use text::Text;
+pub use moment::{Input, InputRef, MAX_BODY, Moment, MomentRef, Plain};
+pub use text::{Text, trace_text};

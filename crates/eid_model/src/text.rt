@@ -1,12 +1,12 @@
 //! Writing the text of a moment.
-ghost use Rattle.std.specs.Prelude.{◌≡◌, [], ◌++◌, OnOk, codes, decimal, option_map};
+ghost use Rattle.std.specs.Prelude.{◌≡◌, [], ◌++◌, OnOk, IfOk, codes, decimal, option_map};
 ghost use Rattle.hex.specs.Hex.{encode_lower};
 ghost use Rattle.eid_apdu.specs.Answer.{plain_reply, status_bytes, spelled};
 ghost use Rattle.eid_apdu.specs.Command.{plain_command};
 ghost use Rattle.eid_model.specs.Trace.{line, header_text, body_text, plain_text, bytes_text, answer_text, found_text, word_text, base_text, question_text, verdict_text, given_text, ask_text, asks_text, handled_text, command_lines, text};
 ghost use Rattle.eid_model.specs.View as view;
 
-use crate::moment::{Input, Moment};
+use crate::moment::{InputRef, Moment, MomentRef};
 use eid_apdu::{Command, Reply};
 use eid_base::{NoMemory, Point, Status};
 use eid_copro::{Answer, Ask, Question};
@@ -293,8 +293,8 @@ impl Text {
     }
 
     /// Appends what the moment of a command says behind its bytes.
-    fn put_handled(&mut self, m: &Moment<'_>) -> Result<(), NoMemory>
-        ensures { OnOk result (self.new ≡ self.old ++ handled_text (view.moment m.now)) }
+    fn put_handled(&mut self, m: &MomentRef<'_>) -> Result<(), NoMemory>
+        ensures { OnOk result (self.new ≡ self.old ++ handled_text (view.moment_ref m.now)) }
     {
         self.put_plain_line(&m.plain)?;
         self.put_asks(m.asks)?;
@@ -315,8 +315,8 @@ impl Text {
     }
 
     /// Appends the text of a command's moment.
-    fn put_command(&mut self, bytes: &[u8], m: &Moment<'_>) -> Result<(), NoMemory>
-        ensures { OnOk result (self.new ≡ self.old ++ command_lines bytes.now (view.moment m.now)) }
+    fn put_command(&mut self, bytes: &[u8], m: &MomentRef<'_>) -> Result<(), NoMemory>
+        ensures { OnOk result (self.new ≡ self.old ++ command_lines bytes.now (view.moment_ref m.now)) }
     {
         self.put_bytes_line(b"apdu ", Some(bytes))?;
         self.put_handled(m)
@@ -325,14 +325,27 @@ impl Text {
     /// Appends the text of a moment.
     ///
     /// # Errors
-    /// `NoMemory` where memory for it is refused. A front of it may stand there then.
-    pub fn put_moment(&mut self, m: &Moment<'_>) -> Result<(), NoMemory>
-        ensures { OnOk result (self.new ≡ self.old ++ text (view.moment m.now)) }
+    /// `NoMemory` where memory for it is refused. What the text holds then is not said; `clear` makes it
+    /// empty.
+    pub fn put_moment(&mut self, m: &MomentRef<'_>) -> Result<(), NoMemory>
+        ensures { OnOk result (self.new ≡ self.old ++ text (view.moment_ref m.now)) }
     {
         match &m.input {
-            Input::On { found } => self.put_on(*found),
-            Input::Off => self.put(b"off\n"),
-            Input::Apdu(bytes) => self.put_command(bytes, m),
+            InputRef::On { found } => self.put_on(*found),
+            InputRef::Off => self.put(b"off\n"),
+            InputRef::Apdu(bytes) => self.put_command(bytes, m),
         }
     }
+}
+
+/// The text of a moment, as a trace has it.
+///
+/// # Errors
+/// `NoMemory` where memory for the text is refused.
+pub fn trace_text(alloc: Global, m: &Moment) -> Result<Vec<u8>, NoMemory>
+    ensures { IfOk result (λ written. written.items ≡ text (view.moment m.now)) }
+{
+    let mut out = Text::new(alloc);
+    out.put_moment(&m.borrowed())?;
+    Ok(out.bytes)
 }

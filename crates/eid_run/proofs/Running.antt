@@ -15,9 +15,9 @@ use Rattle.eid_model.specs.Trace.{text, trace}
 use Rattle.eid_chip.specs.declared.running.Running.{Running}
 use Rattle.eid_chip.specs.declared.chip.Chip.{Chip}
 use Rattle.eid_chip.specs.declared.exchange.Exchange.{Exchange}
-use Rattle.eid_chip.specs.declared.exchange.Handled.{Handled}
-use Rattle.eid_chip.specs.declared.exchange.Handled.TheVariants.{Silent, Answered}
-use Rattle.eid_chip.specs.Fits.{Fits, Follows, IsSound, IsSoundLife, handled, found, is_silent}
+use Rattle.eid_chip.specs.declared.exchange.HandledIn.{HandledIn}
+use Rattle.eid_chip.specs.declared.exchange.HandledIn.TheVariants.{Silent, Answered}
+use Rattle.eid_chip.specs.Fits.{Fits, Follows, IsSound, IsSoundLife, handled_in, found, is_silent_in}
 use Rattle.eid_script.specs.declared.script.Line.{Line}
 use Rattle.eid_script.specs.Scripts.{ScriptLine, ApduLine, plain_line}
 use Rattle.eid_run.specs.Runs.{Happening, Did, Planned, line_for, journal, text_of, Scene, Made, DidLine, BrokeOffLine, IsFrontOfTrace, IsRunSoFar, DidSomeLines}
@@ -33,27 +33,27 @@ found_number (Err BadImage) cut bad = absurd (bad refl)
 pub some_is_not_none : {A : Type 0} (o : Option A) → IsSome o → o ≡ None → ⊥
 some_is_not_none o some none = absurd (cc)
 
-pub handled_line : (bytes : List ℕ) (asks : List Ask) (outcome : Handled) (exchange : Exchange) → line_for (handled bytes asks outcome exchange).input ≡ ApduLine bytes
+pub handled_line : (bytes : List ℕ) (asks : List Ask) (came : HandledIn) (exchange : Exchange) → line_for (handled_in bytes asks came exchange).input ≡ ApduLine bytes
 handled_line bytes asks Silent exchange = refl
 handled_line bytes asks (Answered plain finished rule) exchange = refl
 
-pub handled_steady : (bytes : List ℕ) (asks : List Ask) (outcome : Handled) (exchange : Exchange) → is_steady (handled bytes asks outcome exchange).input ≡ true
+pub handled_steady : (bytes : List ℕ) (asks : List Ask) (came : HandledIn) (exchange : Exchange) → is_steady (handled_in bytes asks came exchange).input ≡ true
 handled_steady bytes asks Silent exchange = refl
 handled_steady bytes asks (Answered plain finished rule) exchange = refl
 
 -- the moment has the questions that were put
-pub handled_asks : (bytes : List ℕ) (asks : List Ask) (outcome : Handled) (exchange : Exchange) → (is_silent outcome ≡ true → asks ≡ []) → (handled bytes asks outcome exchange).asks ≡ asks
+pub handled_asks : (bytes : List ℕ) (asks : List Ask) (came : HandledIn) (exchange : Exchange) → (is_silent_in came ≡ true → asks ≡ []) → (handled_in bytes asks came exchange).asks ≡ asks
 handled_asks bytes asks Silent exchange none = sym (none refl)
 handled_asks bytes asks (Answered plain finished rule) exchange none = refl
 
 -- a command was handed over, and these questions are told
-pub made_told : (old new : Scene) (log room log_now : List Ask) (bytes : List ℕ) (asks told : List Ask) (outcome : Handled) (exchange : Exchange) (m : PlainMoment) → room ≡ log → log_now ≡ room ++ asks → (is_silent outcome ≡ true → asks ≡ []) → Follows old.chip old.device old.cells new.chip new.device new.cells (handled bytes asks outcome exchange)
-    → told ≡ asks → m ≡ handled bytes told outcome exchange → Made old new log log_now (ApduLine bytes) (Did m)
-made_told old new log room log_now bytes asks told outcome exchange m same logged none follows so is =
-    made_of old new log log_now (ApduLine bytes) (handled bytes asks outcome exchange) m follows
-    (logged ∙ ap (λ (l : List Ask). l ++ asks) same ∙ ap (λ (l : List Ask). log ++ l) (sym (handled_asks bytes asks outcome exchange none)))
-    (handled_line bytes asks outcome exchange) (λ one. handled_steady bytes asks outcome exchange)
-    (is ∙ ap (λ (a : List Ask). handled bytes a outcome exchange) so)
+pub made_told : (old new : Scene) (log room log_now : List Ask) (bytes : List ℕ) (asks told : List Ask) (came : HandledIn) (exchange : Exchange) (m : PlainMoment) → room ≡ log → log_now ≡ room ++ asks → (is_silent_in came ≡ true → asks ≡ []) → Follows old.chip old.device old.cells new.chip new.device new.cells (handled_in bytes asks came exchange)
+    → told ≡ asks → m ≡ handled_in bytes told came exchange → Made old new log log_now (ApduLine bytes) (Did m)
+made_told old new log room log_now bytes asks told came exchange m same logged none follows so is =
+    made_of old new log log_now (ApduLine bytes) (handled_in bytes asks came exchange) m follows
+    (logged ∙ ap (λ (l : List Ask). l ++ asks) same ∙ ap (λ (l : List Ask). log ++ l) (sym (handled_asks bytes asks came exchange none)))
+    (handled_line bytes asks came exchange) (λ one. handled_steady bytes asks came exchange)
+    (is ∙ ap (λ (a : List Ask). handled_in bytes a came exchange) so)
 
 -- what holds on success, and on an error, by what follows from it
 pub on_ok : {A E P Q : Type 0} (r : Result A E) → (P → Q) → OnOk r P → OnOk r Q

@@ -10,16 +10,16 @@ ghost use Rattle.eid_model.specs.Trace as trace;
 ghost use Rattle.eid_model.specs.View as view;
 ghost use Rattle.eid_apdu.specs.Command.{plain_command};
 ghost use Rattle.eid_sm.specs.Plain.{plain_of};
-ghost use Rattle.eid_chip.specs.Fits.{IsSound, found, handled};
+ghost use Rattle.eid_chip.specs.Fits.{IsSound, found, handled_in};
 ghost use Rattle.eid_script.specs.Scripts.{plain_line, OnLine, OffLine, ApduLine, CutLine};
 ghost use Rattle.eid_run.specs.Runs.{scene, Did, Planned, GoesOn, Made, DidLine, BrokeOffLine, DidLines, DidSomeLines};
 
 use eid_apdu::Command;
 use eid_base::{IoError, Rule, RunError, Sink};
 use eid_cells::{Eeprom, Tear};
-use eid_chip::{Chip, Exchange, Handled};
+use eid_chip::{Chip, Exchange, HandledIn};
 use eid_copro::{Ask, Coprocessor};
-use eid_model::{Input, Moment, Text};
+use eid_model::{InputRef, MomentRef, Text};
 use eid_script::Line;
 use eid_sm::Header;
 use eid_store::MountError;
@@ -29,10 +29,10 @@ use std::alloc::Global;
 const QUESTIONS: usize = 2;
 
 /// Writes the text of a moment.
-fn tell<K: Sink>(m: &Moment<'_>, text: &mut Text, out: &mut K) -> Result<(), RunError>
+fn tell<K: Sink>(m: &MomentRef<'_>, text: &mut Text, out: &mut K) -> Result<(), RunError>
     ensures tells { (K.seen out.new).tells ≡ (K.seen out.old).tells }
-    ensures whole { OnOk result (IsTrue (K.seen out.old).tells → Grew (K.seen out.old).written (K.seen out.new).written (trace.text (view.moment m.now))) }
-    ensures part { OnErr result (IsTrue (K.seen out.old).tells → GrewByPart (K.seen out.old).written (K.seen out.new).written (trace.text (view.moment m.now))) }
+    ensures whole { OnOk result (IsTrue (K.seen out.old).tells → Grew (K.seen out.old).written (K.seen out.new).written (trace.text (view.moment_ref m.now))) }
+    ensures part { OnErr result (IsTrue (K.seen out.old).tells → GrewByPart (K.seen out.old).written (K.seen out.new).written (trace.text (view.moment_ref m.now))) }
     ensures later { (K.seen out.old).faults ≤ (K.seen out.new).faults }
     ensures fault { IsErrOf result RunError.SinkFault → Rose (K.seen out.old).faults (K.seen out.new).faults }
 {
@@ -48,10 +48,10 @@ fn tell<K: Sink>(m: &Moment<'_>, text: &mut Text, out: &mut K) -> Result<(), Run
 }
 
 /// A moment without answer and without questions.
-fn silent(input: Input<'_>) -> Moment<'_>
-    ensures { view.moment result ≡ model.silent (view.event input.entry) }
+fn silent(input: InputRef<'_>) -> MomentRef<'_>
+    ensures { view.moment_ref result ≡ model.silent (view.event_ref input.entry) }
 {
-    Moment {
+    MomentRef {
         input,
         plain: None,
         asks: &[],
@@ -76,19 +76,19 @@ fn with_body<'a>(plain: Option<Header>, body: &'a [u8]) -> Option<Command<'a>>
 fn moment_of<'a>(
     bytes: &'a [u8],
     asks: &'a [Ask],
-    outcome: Handled,
+    came: HandledIn,
     exchange: &'a Exchange,
-) -> Moment<'a>
-    ensures { view.moment result ≡ handled bytes.now asks.now outcome exchange.now }
+) -> MomentRef<'a>
+    ensures { view.moment_ref result ≡ handled_in bytes.now asks.now came exchange.now }
 {
-    match outcome {
-        Handled::Silent => silent(Input::Apdu(bytes)),
-        Handled::Answered {
+    match came {
+        HandledIn::Silent => silent(InputRef::Apdu(bytes)),
+        HandledIn::Answered {
             plain,
             finished,
             rule,
-        } => Moment {
-            input: Input::Apdu(bytes),
+        } => MomentRef {
+            input: InputRef::Apdu(bytes),
             plain: with_body(plain, exchange.body.as_slice()),
             asks,
             finished,
@@ -110,22 +110,22 @@ fn number_found(mounted: Result<u32, MountError>) -> Option<u32>
 }
 
 /// Gives the chip power.
-fn power_on<'a, E: Eeprom>(chip: &mut Chip, cells: &mut E) -> Input<'a>
+fn power_on<'a, E: Eeprom>(chip: &mut Chip, cells: &mut E) -> InputRef<'a>
     requires { IsSome (stands (E.cells cells.old)) }
-    ensures made { (log : List LogAsk) → Made (scene chip.old (E.device cells.old) (E.cells cells.old)) (scene chip.new (E.device cells.new) (E.cells cells.new)) log log OnLine (Did (model.silent (view.event result))) }
+    ensures made { (log : List LogAsk) → Made (scene chip.old (E.device cells.old) (E.cells cells.old)) (scene chip.new (E.device cells.new) (E.cells cells.new)) log log OnLine (Did (model.silent (view.event_ref result))) }
     ensures goes_on { GoesOn (scene chip.old (E.device cells.old) (E.cells cells.old)) (scene chip.new (E.device cells.new) (E.cells cells.new)) }
 {
     let found = number_found(chip.power_on(cells));
-    Input::On { found }
+    InputRef::On { found }
 }
 
 /// Takes power away from the chip.
-fn power_off<'a, E: Eeprom>(chip: &mut Chip, cells: &mut E) -> Input<'a>
-    ensures made { (log : List LogAsk) → Made (scene chip.old (E.device cells.old) (E.cells cells.old)) (scene chip.new (E.device cells.new) (E.cells cells.new)) log log OffLine (Did (model.silent (view.event result))) }
+fn power_off<'a, E: Eeprom>(chip: &mut Chip, cells: &mut E) -> InputRef<'a>
+    ensures made { (log : List LogAsk) → Made (scene chip.old (E.device cells.old) (E.cells cells.old)) (scene chip.new (E.device cells.new) (E.cells cells.new)) log log OffLine (Did (model.silent (view.event_ref result))) }
     ensures goes_on { GoesOn (scene chip.old (E.device cells.old) (E.cells cells.old)) (scene chip.new (E.device cells.new) (E.cells cells.new)) }
 {
     chip.power_off(cells);
-    Input::Off
+    InputRef::Off
 }
 
 /// The questions that were put since the log had so many.
@@ -159,9 +159,9 @@ fn hand_over<E: Eeprom, C: Coprocessor, K: Sink>(
         return Err(RunError::NoMemory);
     }
     let before = copro.log().len();
-    let outcome = chip.handle(bytes, cells, copro, exchange);
+    let came = chip.handle_in(bytes, cells, copro, exchange);
     let asks = asks_since(copro, before);
-    tell(&moment_of(bytes, asks, outcome, exchange), text, out)
+    tell(&moment_of(bytes, asks, came, exchange), text, out)
 }
 
 /// Plans a cut of the device's power.

@@ -14,7 +14,7 @@ use Rattle.eid_chip.specs.declared.session.Session.{Session}
 use Rattle.eid_chip.specs.Held.{held, held_file}
 use Rattle.eid_chip.specs.States.{state, memory}
 use Rattle.eid_chip.proofs.CarriedOut.{carried}
-use Rattle.eid_chip.proofs.Selections.{first_holds, second_holds, not_false, some_after}
+use Rattle.eid_chip.proofs.Selections.{first_holds, second_holds, not_above, not_false, some_after}
 use Rattle.eid_chip.proofs.ReadSteps.{read_passes, read_answers, read_leaves}
 use Rattle.eid_chip.proofs.select.read_binary.Goals as goal
 use Rattle.eid_chip.proofs.select.read_binary.Goals.{else-c-lt128-via-then-c-lt128+else-is_none, else-c-lt128-via-else-c-lt128, else-ne-via-then-ne+else-is_none-2, else-ne-via-else-ne}
@@ -27,7 +27,7 @@ returns-clause-told g c = λ channel.
     let meant = c.in-Some.ensures.file kept channel in
     let pace : (is_card_access (Some c.in-Some.file.0) || is_some (state c.args.session channel).pace) ≡ true =
     elim c.else-ne.branch [ else-ne-via-then-ne+else-is_none-2 w ↦ second_holds (is_card_access (Some c.in-Some.file.0)) _ (some_after memory c.args.session.memory.pace ∙ w.if-is_none-2.ensures) | else-ne-via-else-ne w ↦ first_holds _ _ (sym (not_false _ w.if-ne.ensures)) ] in
-    let group : nat_lt 1 c.in-Some.file.0 ≡ false = grind (arith, nat_tests) in
+    let group : nat_lt 1 c.in-Some.file.0 ≡ false = not_above 1 c.in-Some.file.0 c.if-file.false in
     let offset : nat_le (offset_meant (plain_command c.args.c.now)) c.in-Some-file_length.length ≡ true = grind (arith, nat_tests, c.meant_offset-offset.ensures) in
     let passes = read_passes kept (state c.args.session channel) (plain_command c.args.c.now) c.in-Some.file.0 c.in-Some-file_length.length (sym c.if-not-is_empty.ensures) current meant pace group c.in-Some-file_length.ensures.length offset in
     let out = c.answered.ensures in
