@@ -1,17 +1,13 @@
 -- What each step of PACE promises, from what it did.
-use Rattle.std.proofs.Common.{◌≡◌, ℕ, Bool, true, false, List, [], ◌∷◌, ◌++◌, Option, Some, None, Result, Ok, Err, sym, refl, ap, ◌∙◌, arith}
+use Rattle.std.proofs.Common.{◌≡◌, ℕ, Bool, true, false, List, [], ◌∷◌, ◌++◌, Option, Some, None, Result, Ok, Err, refl, ap, ◌∙◌}
 use Rattle.std.specs.Prelude.{is_some, option_map, ◌==◌, if◌then◌else◌}
 use Rattle.std.specs.Result.{result_ok}
 use Rattle.std.specs.Str.{bytes_eq}
-use Rattle.std.proofs.lemmas.List.{append-nil}
 use Rattle.eid_apdu.specs.Command.{PlainCommand}
 use Rattle.eid_apdu.specs.Answer.{PlainReply}
-use Rattle.eid_copro.specs.Told.{Told as ToldBefore}
-use Rattle.eid_copro.specs.declared.ask.Ask.{Ask}
 use Rattle.eid_copro.specs.declared.ask.Answer.{Answer}
 use Rattle.eid_copro.specs.declared.ask.Answer.TheVariants as answers
 use Rattle.eid_password.specs.Passwords.{digits_of}
-use Rattle.eid_pace.specs.Asking.{WereAsked}
 use Rattle.eid_pace.specs.States.{PlainChoice, PlainNonceSent, PlainMapped, PlainAgreed, PlainDone}
 use Rattle.eid_pace.specs.Selections.{PlainSelection, chosen_by}
 use Rattle.eid_pace.specs.Rules.{password_rule, token_rule}
@@ -36,16 +32,6 @@ use Rattle.eid_chip.specs.declared.reaction.Reaction.{Reaction}
 use Rattle.eid_chip.specs.declared.session.Session.{Session}
 use Rattle.eid_chip.specs.States.{state}
 use Rattle.eid_chip.specs.Steps.{Told, state_left, state_due, outcome_seen}
-
--- no question was put
-pub asked_none : {C : Type 0} (log : C → List Ask) (spare faults : C → ℕ) (told : C → ToldBefore) (x : C) → WereAsked log spare faults told x x []
-asked_none log spare faults told x = record {
-  logged = sym (append-nil (log x));
-  spent = omega arith;
-  same_told = refl;
-  later = omega arith;
-  cause = λ e. absurd cc;
-}
 
 -- the state where the run has come to another step, one command later
 abbrev moved : Option Kind → Phase → State → State

@@ -6,13 +6,14 @@ use Rattle.eid_base.specs.declared.codes.Rule.{Rule}
 use Rattle.eid_pace.specs.MapEnds.{map_asks}
 use Rattle.eid_pace.specs.View.{nonce_sent_view, mapped_view}
 use Rattle.eid_chip.specs.States.{state, phase_of}
-use Rattle.eid_chip.proofs.PaceSteps.{asked_none, no_point_to_map, mapped_to, went_on}
+use Rattle.eid_chip.proofs.PaceSteps.{no_point_to_map, mapped_to, went_on}
+use Rattle.eid_chip.proofs.Unasked.{not_asked}
 use Rattle.eid_chip.proofs.pace.map_nonce.Goals as goal
 
 pub returns-in_default-clause-told : goal.returns-in_default-clause-told
 returns-in_default-clause-told g c kept = record {
   asks = [];
-  were_asked = asked_none _ _ _ _ _;
+  were_asked = not_asked _ _ _ _ _;
   tells = λ channel. no_point_to_map kept (state c.args.session channel) (plain_command c.args.c.now) c.refused.result (plain_reply c.refused.new.reply) c.in_default.ensures.none (record {
     rule = ap (λ (r : Rule). r.0) c.refused.ensures.rule;
     answered = c.refused.ensures.reply;
