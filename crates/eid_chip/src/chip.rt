@@ -35,8 +35,8 @@ use eid_apdu::{Command, Reply, read_command, write_reply};
 use eid_base::Rule;
 use eid_cells::Eeprom;
 use eid_copro::Coprocessor;
-use eid_model::Kind;
-use eid_sm::{Channel, Header, MAX_MESSAGE, SmError};
+use eid_model::{Kind, MAX_BODY};
+use eid_sm::{Channel, Header, SmError};
 use eid_store::{MountError, Store};
 use std::mem;
 
@@ -44,8 +44,8 @@ use std::mem;
 const MAX_REQUEST: usize = 2048;
 
 /// A command as its header, and its body on its own.
-fn apart(c: &Command<'_>, body: &mut ArrayVec<u8, MAX_MESSAGE>) -> Header
-    requires { length c.now.body.now ≤ MAX_MESSAGE }
+fn apart(c: &Command<'_>, body: &mut ArrayVec<u8, MAX_BODY>) -> Header
+    requires { length c.now.body.now ≤ MAX_BODY }
     ensures { plain_of result body.new.items ≡ plain_command c.now }
 {
     body.clear();
@@ -143,7 +143,7 @@ fn respond<E: Eeprom, C: Coprocessor>(
     let Ok(c) = read_command(bytes) else {
         return not_heard(NO_COMMAND, session, &mut exchange.answer);
     };
-    if c.body.len() > MAX_MESSAGE {
+    if c.body.len() > MAX_BODY {
         return not_heard(NO_COMMAND, session, &mut exchange.answer);
     }
     Response {
@@ -204,12 +204,7 @@ fn respond_any<E: Eeprom, C: Coprocessor>(
 
 /// Writes a reply as it is sent, over what `out` held: in a channel protected, but by the rules on the
 /// objects of secure messaging.
-fn send(
-    channel: &mut Option<Channel>,
-    rule: Rule,
-    reply: &Reply,
-    out: &mut ArrayVec<u8, MAX_MESSAGE>,
-)
+fn send(channel: &mut Option<Channel>, rule: Rule, reply: &Reply, out: &mut ArrayVec<u8, MAX_BODY>)
     requires { array_vec_len reply.now.content ≤ 2048 }
     ensures sent { out.new.items ≡ sent_next channel.old rule.0 (plain_reply reply.now) }
     ensures channel { channel.new ≡ heard_in rule.0 channel.old }

@@ -9,18 +9,18 @@ use arrayvec::ArrayVec;
 use eid_apdu::Reply;
 use eid_base::{Rule, Status};
 use eid_model::{MAX_BODY, Plain};
-use eid_sm::{Header, MAX_MESSAGE};
+use eid_sm::Header;
 
 /// The bytes of one command and its answer. It is kept from one command to the next, so that no buffer
 /// is filled anew.
 #[derive(Debug, Drop)]
 pub struct Exchange {
     /// The body of the plain command, where there is one.
-    pub body: ArrayVec<u8, MAX_MESSAGE>,
+    pub body: ArrayVec<u8, MAX_BODY>,
     /// The answer before secure messaging.
     pub answer: Reply,
     /// The bytes sent.
-    pub sent: ArrayVec<u8, MAX_MESSAGE>,
+    pub sent: ArrayVec<u8, MAX_BODY>,
 }
 
 impl Exchange {

@@ -32,14 +32,14 @@ returns-in_default-clause-response g c =
           (ap (λ (r : Rule). r.0) c.not_heard.ensures.reaction.0) c.not_heard.ensures.reaction.1 (c.not_heard.ensures.left None);
     }
 
-pub returns-then-c-gt-MAX_MESSAGE-clause-response : goal.returns-then-c-gt-MAX_MESSAGE-clause-response
-returns-then-c-gt-MAX_MESSAGE-clause-response g c =
+pub returns-then-c-gt-MAX_BODY-clause-response : goal.returns-then-c-gt-MAX_BODY-clause-response
+returns-then-c-gt-MAX_BODY-clause-response g c =
     let copro = g.C.Coprocessor in
     let kept = held (g.E.Eeprom.cells c.args.cells.now) in
-    let refused = c.not_heard-then-c-gt-MAX_MESSAGE in
+    let refused = c.not_heard-then-c-gt-MAX_BODY in
     record {
       heard = NoCommand;
-      hears = λ d spelled short. too_long c.args.bytes.now (plain_command c.in-Ok.c) d c.in-Ok.ensures.found spelled c.if-c-gt-MAX_MESSAGE.true short;
+      hears = λ d spelled short. too_long c.args.bytes.now (plain_command c.in-Ok.c) d c.in-Ok.ensures.found spelled c.if-c-gt-MAX_BODY.true short;
       is_plain = rw refused.ensures.plain refl;
       asks = [];
       were_asked = not_asked copro.log copro.spare copro.faults copro.told c.args.copro.now;
@@ -53,7 +53,7 @@ returns-clause-response g c =
     let did = c.react.ensures.answers in
     record {
       heard = Command (plain_command c.in-Ok.c);
-      hears = (c.in-Ok.ensures.found, c.if-c-gt-MAX_MESSAGE.false);
+      hears = (c.in-Ok.ensures.found, c.if-c-gt-MAX_BODY.false);
       is_plain = ap Some c.apart.ensures;
       asks = did.asks;
       were_asked = did.were_asked;
