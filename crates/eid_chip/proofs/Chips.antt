@@ -9,10 +9,11 @@ use Rattle.eid_copro.specs.Told.{Told}
 use Rattle.eid_copro.specs.declared.ask.Ask.{Ask}
 use Rattle.eid_record.specs.Plain.{FullRecord}
 use Rattle.eid_sm.specs.Keys.{ChannelState, advanced}
-use Rattle.eid_model.specs.Moments.{Received, PlainMoment, on, live, ends_session_by}
-use Rattle.eid_model.specs.Sessions.{state_of, two_messages_later}
+use Rattle.eid_model.specs.Moments.{Received, PlainMoment, on, ends_session_by}
+use Rattle.eid_model.specs.Sessions.{state_of}
 use Rattle.eid_model.specs.Legal.{IsHandled, IsHeard, answered, sent_in, silent}
 use Rattle.eid_model.specs.Rules.{Heard, plain_of}
+use Rattle.eid_chip.specs.Transitions.{two_messages_later}
 use Rattle.eid_chip.specs.declared.running.Running.{Running}
 use Rattle.eid_chip.specs.declared.reaction.Reaction.{Reaction}
 use Rattle.eid_chip.specs.declared.chip.Chip.{Chip}
@@ -68,7 +69,7 @@ pub chip_responds : (chip : Chip) (running : Running) (device : Device) (cells :
     → IsHandled opening before bytes (moment_by bytes plain asks r reply sent) × Fits (record { life = Some (running_on running r left) }) device cells opening (moment_by bytes plain asks r reply sent ∷ before)
 chip_responds chip running device cells bytes heard plain asks r reply sent left alive written kept hears plain_is answers opening before fits =
     let power : on before ≡ true = sym fits.powered ∙ ap is_some alive in
-    let living : state running.session running.channel ≡ state_of (live before) = subst (λ (l : Option Running). HasState l before) alive fits.living in
+    let living : state running.session running.channel ≡ state_of opening before = subst (λ (l : Option Running). HasState l opening before) alive fits.living in
     let is : held cells ≡ opening = held_is cells opening fits.standing in
     let so = subst (λ (k : FullRecord). Answers k (state running.session running.channel) heard asks r reply) is answers in
     let done = responded (state running.session running.channel) opening before bytes heard asks r reply power living hears so in
@@ -89,7 +90,7 @@ silent_follows chip new device cells bytes off still opening before fits =
       record {
         powered = ap is_some still ∙ sym dark;
         sound = subst (λ (l : Option Running). IsSoundLife l device cells) (sym still) _;
-        living = subst (λ (l : Option Running). HasState l (silent (Received bytes) ∷ before)) (sym still) _;
+        living = subst (λ (l : Option Running). HasState l opening (silent (Received bytes) ∷ before)) (sym still) _;
         standing = fits.standing;
       },
     )

@@ -11,10 +11,11 @@ use Rattle.eid_record.specs.Plain.{FullRecord}
 use Rattle.eid_model.specs.declared.kind.Kind.{Kind}
 use Rattle.eid_model.specs.Kinds.{kind_named}
 use Rattle.eid_model.specs.Runs.{answers_of}
-use Rattle.eid_model.specs.Sessions.{State, advanced, ended_run}
+use Rattle.eid_model.specs.Sessions.{State}
 use Rattle.eid_model.specs.Rules.{Heard, Command, Situation, RuleRow, MAX_REQUEST, hearing_rules, naming_rules, request_rules, kind_rules, answer_rules, proof_rules, concerns, first_failed}
-use Rattle.eid_model.specs.Answers.{Outcome, outcome, outcome_of, outcome_by, question, question_by, question_of, situation, kind_heard, command_of, status_alone, state_answered}
+use Rattle.eid_model.specs.Answers.{Outcome, outcome, outcome_of, outcome_by, question, question_by, question_of, situation, kind_heard, command_of, status_alone}
 use Rattle.eid_model.specs.Legal.{AreAsked}
+use Rattle.eid_chip.specs.Transitions.{state_answered, state_carried_out, state_refused}
 use Rattle.eid_chip.specs.declared.reaction.Reaction.{Reaction}
 use Rattle.eid_chip.specs.Steps.{PlainRefusal, refusal_by, known, heard_command, outcome_seen, state_left, state_due, Told, Answers}
 
@@ -136,30 +137,30 @@ if_not true x y e = absurd (cc)
 if_not false x y e = refl
 
 -- a refused command leaves the state without a run
-pub refused_state : (rule : ℕ) (kind : Option Kind) (c : PlainCommand) (answers : List Answer) (old : State) → (rule == 0) ≡ false → state_answered rule kind c answers old ≡ ended_run old
+pub refused_state : (rule : ℕ) (kind : Option Kind) (c : PlainCommand) (answers : List Answer) (old : State) → (rule == 0) ≡ false → state_answered rule kind c answers old ≡ state_refused old
 refused_state rule None c answers old e = refl
-refused_state rule (Some kind) c answers old e = if_not (rule == 0) (advanced kind c answers old) (ended_run old) e
+refused_state rule (Some kind) c answers old e = if_not (rule == 0) (state_carried_out kind c answers old) (state_refused old) e
 
 -- a refusal puts no question, and is the answer
 pub refused_answers : (rows more later : List RuleRow) (kept : FullRecord) (old : State) (heard : Heard) (refused : PlainRefusal) (r : Reaction) (reply : PlainReply) → refusal_by rows (situation kept old heard []) ≡ Some refused
     → question (situation kept old heard []) ≡ (if is_none (first_failed (rows ++ more) (situation kept old heard [])) then question_of (situation kept old heard []).kind (situation kept old heard []) else None)
     → outcome (situation kept old heard []) ≡ outcome_by (first_failed (rows ++ later) (situation kept old heard [])) (situation kept old heard [])
     → (refused.rule == 0) ≡ false → r.rule.0 ≡ refused.rule → reply ≡ status_alone refused.status
-    → state_left r old.channel ≡ state_due refused.rule (ended_run old) → Answers kept old heard [] r reply
+    → state_left r old.channel ≡ state_due refused.rule (state_refused old) → Answers kept old heard [] r reply
 refused_answers rows more later kept old heard refused r reply fails asks ends is_one rule answered left =
     let s = situation kept old heard [] in
     let same : refused_so refused ≡ outcome_seen r reply = rw (rule, answered) refl in
     record {
       asked = asks ∙ if_not (is_none (first_failed (rows ++ more) s)) (question_of s.kind s) None (some_failed rows more s refused fails);
       ended = ends ∙ failed rows later s refused fails ∙ same;
-      left = left ∙ ap (λ (n : ℕ). state_due n (ended_run old)) (sym rule)
+      left = left ∙ ap (λ (n : ℕ). state_due n (state_refused old)) (sym rule)
           ∙ ap (λ (x : State). state_due r.rule.0 x) (sym (refused_state r.rule.0 (kind_heard old heard) (command_of heard) [] old (ap (λ (n : ℕ). n == 0) rule ∙ is_one)));
     }
 
 -- a command whose class, instruction or parameters are refused
 pub name_refused : (kept : FullRecord) (old : State) (c : PlainCommand) (refused : PlainRefusal) (r : Reaction) (reply : PlainReply) → refusal_by naming_rules (heard_command kept old c []) ≡ Some refused
     → (refused.rule == 0) ≡ false → r.rule.0 ≡ refused.rule → reply ≡ status_alone refused.status
-    → state_left r old.channel ≡ state_due refused.rule (ended_run old) → Answers kept old (Command c) [] r reply
+    → state_left r old.channel ≡ state_due refused.rule (state_refused old) → Answers kept old (Command c) [] r reply
 unfolding question outcome
 name_refused kept old c refused r reply fails is_one rule answered left =
     let s = heard_command kept old c [] in
@@ -171,7 +172,7 @@ name_refused kept old c refused r reply fails is_one rule answered left =
 -- a command of some kind in a request that is refused
 pub request_refused : (kept : FullRecord) (old : State) (c : PlainCommand) (refused : PlainRefusal) (r : Reaction) (reply : PlainReply) → refusal_by naming_rules (heard_command kept old c []) ≡ None → refusal_by request_rules (heard_command kept old c []) ≡ Some refused
     → (refused.rule == 0) ≡ false → r.rule.0 ≡ refused.rule → reply ≡ status_alone refused.status
-    → state_left r old.channel ≡ state_due refused.rule (ended_run old) → Answers kept old (Command c) [] r reply
+    → state_left r old.channel ≡ state_due refused.rule (state_refused old) → Answers kept old (Command c) [] r reply
 unfolding question outcome
 request_refused kept old c refused r reply names fails is_one rule answered left =
     let s = heard_command kept old c [] in
@@ -185,7 +186,7 @@ request_refused kept old c refused r reply names fails is_one rule answered left
 -- bytes that are no command, or whose objects of secure messaging are missing or wrong
 pub hearing_refused : (kept : FullRecord) (old : State) (heard : Heard) (refused : PlainRefusal) (r : Reaction) (reply : PlainReply) → refusal_by hearing_rules (situation kept old heard []) ≡ Some refused
     → (refused.rule == 0) ≡ false → r.rule.0 ≡ refused.rule → reply ≡ status_alone refused.status
-    → state_left r old.channel ≡ state_due refused.rule (ended_run old) → Answers kept old heard [] r reply
+    → state_left r old.channel ≡ state_due refused.rule (state_refused old) → Answers kept old heard [] r reply
 unfolding question outcome
 hearing_refused kept old heard refused r reply fails is_one rule answered left =
     refused_answers hearing_rules (naming_rules ++ request_rules ++ kind_rules ++ answer_rules) (naming_rules ++ request_rules ++ kind_rules ++ answer_rules ++ proof_rules) kept old heard refused r reply fails

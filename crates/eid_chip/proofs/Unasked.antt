@@ -10,8 +10,9 @@ use Rattle.eid_pace.specs.Asking.{WereAsked}
 use Rattle.eid_sm.specs.Keys.{ChannelState}
 use Rattle.eid_model.specs.declared.kind.Kind.{Kind}
 use Rattle.eid_model.specs.declared.kind.Kind.TheVariants.{NoStep}
-use Rattle.eid_model.specs.Sessions.{State, ended_run}
+use Rattle.eid_model.specs.Sessions.{State}
 use Rattle.eid_model.specs.Answers.{status_alone}
+use Rattle.eid_chip.specs.Transitions.{state_refused}
 use Rattle.eid_chip.specs.declared.session.Session.{Session}
 use Rattle.eid_chip.specs.declared.reaction.Reaction.{Reaction}
 use Rattle.eid_chip.specs.States.{state}
@@ -36,7 +37,7 @@ unasked log spare faults told copro kind is kept session c r reply same tells = 
 }
 
 -- a GENERAL AUTHENTICATE that the run has not come to is refused
-pub no_step : (kept : FullRecord) (old : State) (c : PlainCommand) (r : Reaction) (reply : PlainReply) → r.rule.0 ≡ 9 → reply ≡ status_alone 0x6985 → state_left r old.channel ≡ state_due 9 (ended_run old) → Told NoStep kept old c [] r reply
+pub no_step : (kept : FullRecord) (old : State) (c : PlainCommand) (r : Reaction) (reply : PlainReply) → r.rule.0 ≡ 9 → reply ≡ status_alone 0x6985 → state_left r old.channel ≡ state_due 9 (state_refused old) → Told NoStep kept old c [] r reply
 no_step kept old c r reply rule answered left = record {
   asked = refl;
   ended = rw (rule, answered) refl;

@@ -9,7 +9,7 @@ use Rattle.eid_record.specs.Plain.{FullRecord}
 use Rattle.eid_store.specs.declared.durable.MountError.{MountError}
 use Rattle.eid_store.specs.Stands.{stands}
 use Rattle.eid_store.specs.Store as store
-use Rattle.eid_model.specs.Moments.{Received, PlainMoment, on, live}
+use Rattle.eid_model.specs.Moments.{Received, PlainMoment, on}
 use Rattle.eid_model.specs.Sessions.{state_of}
 use Rattle.eid_model.specs.Legal.{IsLegalMoment, silent, kept}
 use Rattle.eid_model.specs.View as view
@@ -31,16 +31,16 @@ IsSoundLife (Some running) device cells = store.Fits running.store device cells
 abbrev pub IsSound : Chip → Device → List ℕ → Type 0
 IsSound chip device cells = IsSoundLife chip.life device cells
 
--- where the chip is on, its state is that of the live moments
-abbrev pub HasState : Option Running → List PlainMoment → Type 0
-HasState None moments = Unit {0}
-HasState (Some running) moments = state running.session running.channel ≡ state_of (live moments)
+-- where the chip is on, its state is what the moments leave
+abbrev pub HasState : Option Running → FullRecord → List PlainMoment → Type 0
+HasState None opening moments = Unit {0}
+HasState (Some running) opening moments = state running.session running.channel ≡ state_of opening moments
 
 -- The chip over its device is where these moments leave a chip whose cells stood for this record.
 pub record Fits (chip : Chip) (device : Device) (cells : List ℕ) (opening : FullRecord) (moments : List PlainMoment) : Type 0 where
   pub powered : is_some chip.life ≡ on moments
   pub sound : IsSound chip device cells
-  pub living : HasState chip.life moments
+  pub living : HasState chip.life opening moments
   pub standing : stands cells ≡ Some (kept opening moments)
 
 -- From one chip over its device to another by a moment: wherever the first fits a journal, the moment is

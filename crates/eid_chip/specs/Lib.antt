@@ -2,3 +2,4 @@ pub mod Fits
 pub mod Held
 pub mod States
 pub mod Steps
+pub mod Transitions

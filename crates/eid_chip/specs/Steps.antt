@@ -16,10 +16,11 @@ use Rattle.eid_sm.specs.Replies.{sealed}
 use Rattle.eid_model.specs.declared.kind.Kind.{Kind}
 use Rattle.eid_model.specs.Moments.{ends_session_by}
 use Rattle.eid_model.specs.Runs.{answers_of}
-use Rattle.eid_model.specs.Sessions.{State, fresh, two_messages_later}
+use Rattle.eid_model.specs.Sessions.{State, fresh}
 use Rattle.eid_model.specs.Rules.{Heard, Command, plain_of, Situation, RuleRow, kind_rules, first_failed}
-use Rattle.eid_model.specs.Answers.{Outcome, outcome, question, outcome_of, question_by, situation, kind_heard, command_of, state_answered}
+use Rattle.eid_model.specs.Answers.{Outcome, outcome, question, outcome_of, question_by, situation, kind_heard, command_of}
 use Rattle.eid_model.specs.Legal.{IsHeard, AreAsked}
+use Rattle.eid_chip.specs.Transitions.{state_answered, two_messages_later}
 use Rattle.eid_chip.specs.declared.exchange.Exchange.{Exchange}
 use Rattle.eid_chip.specs.declared.session.Session.{Session}
 use Rattle.eid_chip.specs.States.{state}

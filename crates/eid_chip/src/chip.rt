@@ -11,7 +11,7 @@ ghost use Rattle.eid_apdu.specs.Answer.{plain_reply};
 ghost use Rattle.eid_sm.specs.Keys.{ChannelState};
 ghost use Rattle.eid_sm.specs.Plain.{plain_of};
 ghost use Rattle.eid_model.specs.Moments.{PoweredOn, PoweredOff, ends_session_by};
-ghost use Rattle.eid_model.specs.Sessions.{ended_run};
+ghost use Rattle.eid_chip.specs.Transitions.{state_refused};
 ghost use Rattle.eid_model.specs.Kinds.{goes_on_in_run};
 ghost use Rattle.eid_model.specs.Answers.{status_alone};
 ghost use Rattle.eid_model.specs.Legal.{silent};
@@ -117,7 +117,7 @@ fn react<E: Eeprom, C: Coprocessor>(
 fn not_heard(refusal: Refusal, session: Session, reply: &mut Reply) -> Response
     ensures plain { result.plain ≡ None }
     ensures reaction { (result.reaction.rule ≡ refusal.rule) × (plain_reply reply.new ≡ status_alone refusal.status.0) }
-    ensures left { (channel : Option ChannelState) → state_left result.reaction channel ≡ state_due refusal.rule.0 (ended_run (state session channel)) }
+    ensures left { (channel : Option ChannelState) → state_left result.reaction channel ≡ state_due refusal.rule.0 (state_refused (state session channel)) }
     ensures small { array_vec_len reply.new.content ≤ 2048 }
 {
     Response {

@@ -11,7 +11,7 @@ ghost use Rattle.eid_sm.specs.Keys.{ChannelState};
 ghost use Rattle.eid_store.specs.Store as stored;
 ghost use Rattle.eid_chip.specs.Held.{held};
 ghost use Rattle.eid_pace.specs.View.{done_view};
-ghost use Rattle.eid_model.specs.Sessions.{channel_after, memory_of};
+ghost use Rattle.eid_model.specs.Sessions.{channel_after, keys_of, memory_of};
 ghost use Rattle.eid_chip.specs.States.{memory, next_of, state};
 ghost use Rattle.eid_chip.specs.Steps.{Stepped, Told};
 
@@ -195,7 +195,7 @@ fn last_pace(done: &Done) -> LastPace
 
 /// The channel that a PACE opens.
 fn channel_of(done: &Done) -> Channel
-    ensures { result ≡ channel_after 0 (done_view done.now) }
+    ensures { result ≡ channel_after 0 (keys_of (done_view done.now)) }
 {
     let enc = done.enc;
     let mac = done.mac;

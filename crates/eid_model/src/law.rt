@@ -2,7 +2,7 @@
 ghost use Rattle.std.specs.Prelude.{◌≡◌, List, ◌∷◌, true};
 ghost use Rattle.eid_record.specs.Plain.{FullRecord};
 ghost use Rattle.eid_copro.specs.Told.{Source, AnswersFrom};
-ghost use Rattle.eid_model.specs.Moments.{PlainMoment, script, asked, live, ends_with_power, AreSteady};
+ghost use Rattle.eid_model.specs.Moments.{PlainMoment, script, asked, leaves_no_session, AreSteady};
 ghost use Rattle.eid_model.specs.Sessions.{state_of, fresh};
 ghost use Rattle.eid_model.specs.Legal.{AreLegal};
 
@@ -15,5 +15,5 @@ pub fn law_one_journal()
 /// Power and want of power leave no session: after a power-on, a power-off and a lost moment there is no
 /// channel, no PACE and no run.
 pub fn law_fresh()
-    ensures { (opening : FullRecord) (m : PlainMoment) (before : List PlainMoment) → AreLegal opening (m ∷ before) → ends_with_power m ≡ true → state_of (live (m ∷ before)) ≡ fresh }
+    ensures { (opening : FullRecord) (m : PlainMoment) (before : List PlainMoment) → AreLegal opening (m ∷ before) → leaves_no_session m ≡ true → state_of opening (m ∷ before) ≡ fresh }
 {}
