@@ -3,7 +3,6 @@ pub mod Keys
 pub mod States
 pub mod Selections
 pub mod SelectionIn
-pub mod Asking
 pub mod NonceEnds
 pub mod MapEnds
 pub mod AgreeEnds

@@ -80,7 +80,8 @@ fn read_reference(body: &[u8]) -> Option<u8>
 /// The template of the one 7F4C, or that there is no 7F4C; `None` where another thing stands there.
 fn find_template(body: &[u8]) -> Option<Option<Template>>
     ensures found { IfSome result (λ template. HasTemplate body.now (option_map template_bytes template)) }
-    ensures only { (template : Option (List ℕ)) → HasTemplate body.now template → IsSomeAnd result (λ found. option_map template_bytes found ≡ template) }
+    ensures only { (template : Option (List ℕ)) → HasTemplate body.now template
+        → IsSomeAnd result (λ found. option_map template_bytes found ≡ template) }
 {
     match find(body, TEMPLATE) {
         Found::Absent => Some(None),
@@ -98,7 +99,8 @@ const BEFORE_TEMPLATE: [u8; 13] = [0x06, 9, 0x04, 0x00, 0x7F, 0x00, 0x07, 3, 1, 
 /// The template in the value of a 7F4C.
 fn read_template(value: &[u8]) -> Option<Template>
     ensures found { IfSome result (λ template. value.now ≡ template_value (template_bytes template)) }
-    ensures only { (template : List ℕ) → length template ≡ 5 → value.now ≡ template_value template → IsSomeAnd result (λ found. template_bytes found ≡ template) }
+    ensures only { (template : List ℕ) → length template ≡ 5 → value.now ≡ template_value template
+        → IsSomeAnd result (λ found. template_bytes found ≡ template) }
 {
     let Some(bytes) = value.strip_prefix(&BEFORE_TEMPLATE) else {
         return None;

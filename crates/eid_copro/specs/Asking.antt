@@ -1,7 +1,7 @@
--- The questions of the steps, and what several questions do to a coprocessor.
+-- Asks, and what several questions do to a coprocessor. This project's own.
 use Rattle.std.specs.Prelude.{◌≡◌, ℕ, ◌+◌, ◌≤◌, ◌||◌, Bool, true, false, List, [], ◌∷◌, ◌++◌, length, Option}
 use Rattle.eid_base.specs.Faults.{Rose}
-use Rattle.eid_copro.specs.Told.{Told}
+use Rattle.eid_copro.specs.Seen.{CoproSeen}
 use Rattle.eid_copro.specs.declared.ask.Ask.{Ask}
 use Rattle.eid_copro.specs.declared.ask.Question.TheVariants as questions
 use Rattle.eid_copro.specs.declared.ask.Answer.{Answer}
@@ -29,15 +29,15 @@ met_fault [] = false
 met_fault (ask ∷ later) = is_fault ask.answer || met_fault later
 
 -- these were asked and answered, oldest first, and no others; a fault has a cause
-pub record WereAsked {C : Type 0} (log : C → List Ask) (spare faults : C → ℕ) (told : C → Told) (old new : C) (asks : List Ask) : Type 0 where
-  pub logged : log new ≡ log old ++ asks
-  pub spent : spare new + length asks ≡ spare old
-  pub same_told : told new ≡ told old
-  pub later : faults old ≤ faults new
-  pub cause : met_fault asks ≡ true → Rose (faults old) (faults new)
+pub record WereAsked (old new : CoproSeen) (asks : List Ask) : Type 0 where
+  pub logged : new.log ≡ old.log ++ asks
+  pub spent : new.spare + length asks ≡ old.spare
+  pub same_told : new.told ≡ old.told
+  pub later : old.faults ≤ new.faults
+  pub cause : met_fault asks ≡ true → Rose old.faults new.faults
 
 -- A step put the questions of one of its ends, and gave what that end gives.
-pub record EndsAs {C End Given : Type 0} (log : C → List Ask) (spare faults : C → ℕ) (told : C → Told) (old new : C) (asks_of : End → List Ask) (given_by : End → Given) (given : Given) : Type 0 where
+pub record EndsAs {End Given : Type 0} (old new : CoproSeen) (asks_of : End → List Ask) (given_by : End → Given) (given : Given) : Type 0 where
   pub end : End
-  pub asked : WereAsked log spare faults told old new (asks_of end)
+  pub asked : WereAsked old new (asks_of end)
   pub gives : given ≡ given_by end
