@@ -3,3 +3,4 @@ pub mod Held
 pub mod States
 pub mod Steps
 pub mod Transitions
+pub mod Commits

@@ -9,7 +9,7 @@ ghost use Rattle.eid_sm.specs.Keys.{ChannelState};
 ghost use Rattle.eid_chip.specs.States.{state};
 ghost use Rattle.eid_chip.specs.Steps.{state_left, state_due};
 
-use crate::reaction::Reaction;
+use crate::reaction::{Ending, Reaction};
 use crate::refusal::Refusal;
 use crate::session::Session;
 use eid_apdu::Reply;
@@ -69,5 +69,15 @@ pub fn answered(session: Session) -> Reaction
         rule: Rule(0),
         session,
         opened: None,
+    }
+}
+
+/// How a command ends that commits nothing.
+pub fn uncommitted(reaction: Reaction) -> Ending
+    ensures { result ≡ Ending.Answered reaction 0 }
+{
+    Ending::Answered {
+        reaction,
+        finished: 0,
     }
 }

@@ -212,6 +212,11 @@ kept opening moments = record_after opening (ledger opening moments)
 
 -- ---- what cells may hold
 
+-- the record after these effects were committed, the first one first
+abbrev pub all_committed : List PlainEffect → FullRecord → FullRecord
+all_committed [] kept = kept
+all_committed (effect ∷ later) kept = all_committed later (committed effect kept)
+
 -- cells hold the record kept; where an effect is pending, that or the one with the effect
 abbrev pub MayHold : Option PlainEffect → FullRecord → Option FullRecord → Type 0
 MayHold None kept holds = holds ≡ Some kept
