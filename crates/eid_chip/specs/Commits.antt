@@ -1,5 +1,5 @@
 -- What commits do to a chip's store, its device and the cells.
-use Rattle.std.specs.Prelude.{◌≡◌, ℕ, ◌*◌, ◌<◌, ◌≤◌, List, [], ◌∷◌, length, take, drop, Option, Some, IsTrue, slice_index}
+use Rattle.std.specs.Prelude.{◌≡◌, ℕ, ◌*◌, ◌≤◌, List, take, drop, Some, IsTrue, slice_index}
 use Rattle.eid_cells.specs.Device.{Device, WasCut}
 use Rattle.eid_copro.specs.Seen.{CoproSeen}
 use Rattle.eid_record.specs.Plain.{FullRecord, PlainEffect}

@@ -75,10 +75,12 @@ pending_entered opening (m ∷ before) = by m.input refl (pending_entered openin
   answered : (o : Option PlainReply) (due_now : List PlainEffect) → AreEntered due_now → IfSome (if is_some o then None else first_of (drop m.finished due_now)) IsEntered
   answered None due_now are = first_entered (drop m.finished due_now) (drop_entered m.finished due_now are)
   answered (Some reply) due_now are = tt
+
   handled : (power : Bool) → IfSome (pending opening before) IsEntered
       → IfSome (if power then books_handled (due_at (kept opening before) opening before m.plain m) m (books opening before) else books opening before).pending IsEntered
   handled true earlier = answered m.answer (due_at (kept opening before) opening before m.plain m) (at_entered (kept opening before) opening before m.plain m)
   handled false earlier = earlier
+
   by : (e : Event) → m.input ≡ e → IfSome (pending opening before) IsEntered → IfSome (books_more opening before m e (books opening before)).pending IsEntered
   by (PoweredOn None) is earlier = earlier
   by (PoweredOn (Some found)) is earlier = tt
@@ -95,6 +97,7 @@ on_pends_nothing opening (m ∷ before) power = by m.input refl (on_pends_nothin
   handled None has is stays answer = absurd (cc)
   handled (Some reply) false is stays answer = absurd (cc)
   handled (Some reply) true is stays answer = rw (is, answer) refl
+
   by : (e : Event) → m.input ≡ e → (on before ≡ true → pending opening before ≡ None) → on (m ∷ before) ≡ true → (books_more opening before m e (books opening before)).pending ≡ None
   by (PoweredOn None) is earlier stays = absurd (let gone : on (m ∷ before) ≡ false = rw is refl in cc)
   by (PoweredOn (Some found)) is earlier stays = refl
@@ -178,6 +181,7 @@ unfolding books
 stood_on opening before full holds is standing = by (pending opening before) refl (pending_entered opening before) standing where
   k : ℕ
   k = (kept opening before).fields.number
+
   by : (p : Option PlainEffect) → pending opening before ≡ p → IfSome (pending opening before) IsEntered → MayHold p (kept opening before) holds
       → MayFind (pending opening before) k full.fields.number × Stands opening (books_found full.fields.number k (books opening before)) holds
   by None none entered standing =

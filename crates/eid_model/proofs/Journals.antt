@@ -133,6 +133,7 @@ nothing_pending opening (m ∷ before) steady = by m.input refl (nothing_pending
   handled false o power answer earlier kept = rw power earlier
   handled true None power answer earlier kept = absurd (let none : (is_none m.answer && on before) ≡ true = rw (answer, power) refl in cc)
   handled true (Some reply) power answer earlier kept = rw (power, answer) refl
+
   by : (e : Event) → m.input ≡ e → pending opening before ≡ None → lost m before ≡ false → (books_more opening before m e (books opening before)).pending ≡ None
   by (PoweredOn None) is earlier kept = earlier
   by (PoweredOn (Some found)) is earlier kept = refl
@@ -140,7 +141,7 @@ nothing_pending opening (m ∷ before) steady = by m.input refl (nothing_pending
   by (Received bytes) is earlier kept = handled (on before) m.answer refl refl earlier (rw is at kept)
 
 -- what came, and the moments before, determine the moment
-same_for : (source : Source) (e f : Event) (opening : FullRecord) (before : List PlainMoment) (m n : PlainMoment) → AnswersFrom source (asked (m ∷ before)) → AnswersFrom source (asked (n ∷ before)) → IsLegalFor e opening before m → IsLegalFor f opening before n 
+same_for : (source : Source) (e f : Event) (opening : FullRecord) (before : List PlainMoment) (m n : PlainMoment) → AnswersFrom source (asked (m ∷ before)) → AnswersFrom source (asked (n ∷ before)) → IsLegalFor e opening before m → IsLegalFor f opening before n
     → pending opening before ≡ None → is_lost e (is_none m.answer && on before) ≡ false → is_lost f (is_none n.answer && on before) ≡ false → line_of e ≡ line_of f → m ≡ n
 same_for source (PoweredOn None) f opening before m n from_m from_n p q none e_steady f_steady lines = absurd (cc)
 same_for source (PoweredOn (Some x)) (PoweredOn None) opening before m n from_m from_n p q none e_steady f_steady lines = absurd (cc)
