@@ -30,7 +30,8 @@ use Rattle.eid_chip.specs.States.{Living, ChipView, living, state}
 use Rattle.eid_chip.specs.Steps.{outcome_seen, heard_in, sent_next, channel_left, state_left, IsEndedByRules, Responds}
 use Rattle.eid_chip.specs.Fits.{Scene, scene, Fits, Follows, Handles, HasState, IsSoundLife, Came, Silence, Answer, Loss, moment_of}
 use Rattle.eid_chip.specs.Transitions.{two_messages_later}
-use Rattle.eid_chip.proofs.HeldFiles.{held_is, fits_stands}
+use Rattle.eid_chip.proofs.HeldFiles.{held_is}
+use Rattle.eid_store.proofs.Laws.{stood_for}
 use Rattle.eid_chip.proofs.Follow.{responded, was_lost}
 use Rattle.eid_chip.proofs.Unasked.{not_asked}
 
@@ -150,7 +151,7 @@ cut_follows old new off cells opening before fits = (
 -- a power-on that found this number, which is the one of the record that the cells stand for
 pub on_follows : (old new : Scene) (store : Store) (number : ℕ) → new.chip.life ≡ Some (record { store = store; state = fresh }) → stored.Fits store new.device new.cells → stands new.cells ≡ stands old.cells → number ≡ (stored.fields_of store).number → Follows old new (silent (PoweredOn (Some number)))
 on_follows old new store number is fits cells number_is opening before before_fits =
-    let found = fits_stands store new.device new.cells fits in
+    let found = stood_for store new.device new.cells fits in
     let full = found.0 in
     let same : full.fields.number ≡ number = ap (λ (r : PlainRecord). r.number) found.2 ∙ sym number_is in
     let stood = stood_on opening before full (stands old.cells) (sym cells ∙ found.1) before_fits.standing in
