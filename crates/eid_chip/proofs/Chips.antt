@@ -5,7 +5,7 @@ use Rattle.std.specs.Option.{option_or}
 use Rattle.eid_apdu.specs.Command.{PlainCommand}
 use Rattle.eid_apdu.specs.Answer.{PlainReply, spelled}
 use Rattle.eid_cells.specs.Device.{Device}
-use Rattle.eid_copro.specs.Told.{Told}
+use Rattle.eid_copro.specs.Seen.{CoproSeen}
 use Rattle.eid_copro.specs.declared.ask.Ask.{Ask}
 use Rattle.eid_record.specs.Plain.{FullRecord}
 use Rattle.eid_sm.specs.Keys.{ChannelState, advanced}
@@ -95,8 +95,8 @@ silent_follows chip new device cells bytes off still opening before fits =
     )
 
 -- what came, told by other values that mean the same
-pub handles_same : {C : Type 0} {log : C → List Ask} {spare faults : C → ℕ} {told : C → Told} {before after : C} {old : Chip} {device : Device} {cells : List ℕ} {new : Chip} {new_device : Device} {new_cells : List ℕ} {one other : Bool} {m n : List Ask → PlainMoment} → one ≡ other → ((asks : List Ask) → m asks ≡ n asks)
-    → Handles log spare faults told before after old device cells new new_device new_cells other n → Handles log spare faults told before after old device cells new new_device new_cells one m
+pub handles_same : {before after : CoproSeen} {old : Chip} {device : Device} {cells : List ℕ} {new : Chip} {new_device : Device} {new_cells : List ℕ} {one other : Bool} {m n : List Ask → PlainMoment} → one ≡ other → ((asks : List Ask) → m asks ≡ n asks)
+    → Handles before after old device cells new new_device new_cells other n → Handles before after old device cells new new_device new_cells one m
 handles_same {old = old} {device = device} {cells = cells} {new = new} {new_device = new_device} {new_cells = new_cells} silent same handles = record {
   asks = handles.asks;
   were_asked = handles.were_asked;

@@ -3,10 +3,10 @@ use Rattle.std.proofs.Common.{◌≡◌, sym, ℕ, List, [], Option, refl, subst
 use Rattle.std.proofs.lemmas.List.{append-nil}
 use Rattle.eid_apdu.specs.Command.{PlainCommand}
 use Rattle.eid_apdu.specs.Answer.{PlainReply}
-use Rattle.eid_copro.specs.Told.{Told as ToldBefore}
+use Rattle.eid_copro.specs.Seen.{CoproSeen}
 use Rattle.eid_copro.specs.declared.ask.Ask.{Ask}
 use Rattle.eid_record.specs.Plain.{FullRecord}
-use Rattle.eid_pace.specs.Asking.{WereAsked}
+use Rattle.eid_copro.specs.Asking.{WereAsked}
 use Rattle.eid_sm.specs.Keys.{ChannelState}
 use Rattle.eid_model.specs.declared.kind.Kind.{Kind}
 use Rattle.eid_model.specs.declared.kind.Kind.TheVariants.{NoStep}
@@ -18,9 +18,9 @@ use Rattle.eid_chip.specs.States.{state}
 use Rattle.eid_chip.specs.Steps.{Told, Stepped, state_left, state_due}
 
 -- a coprocessor that was not asked
-pub not_asked : {C : Type 0} (log : C → List Ask) (spare faults : C → ℕ) (told : C → ToldBefore) (copro : C) → WereAsked log spare faults told copro copro []
-not_asked log spare faults told copro = record {
-  logged = sym (append-nil (log copro));
+pub not_asked : (copro : CoproSeen) → WereAsked copro copro []
+not_asked copro = record {
+  logged = sym (append-nil copro.log);
   spent = omega arith;
   same_told = refl;
   later = omega arith;
@@ -28,10 +28,10 @@ not_asked log spare faults told copro = record {
 }
 
 -- the coprocessor stays as it is
-pub unasked : {C : Type 0} (log : C → List Ask) (spare faults : C → ℕ) (told : C → ToldBefore) (copro : C) (kind is : Kind) (kept : FullRecord) (session : Session) (c : PlainCommand) (r : Reaction) (reply : PlainReply) → kind ≡ is → ((channel : Option ChannelState) → Told is kept (state session channel) c [] r reply) → Stepped log spare faults told copro copro kind kept session c r reply
-unasked log spare faults told copro kind is kept session c r reply same tells = record {
+pub unasked : (copro : CoproSeen) (kind is : Kind) (kept : FullRecord) (session : Session) (c : PlainCommand) (r : Reaction) (reply : PlainReply) → kind ≡ is → ((channel : Option ChannelState) → Told is kept (state session channel) c [] r reply) → Stepped copro copro kind kept session c r reply
+unasked copro kind is kept session c r reply same tells = record {
   asks = [];
-  were_asked = not_asked log spare faults told copro;
+  were_asked = not_asked copro;
   tells = λ channel. subst (λ (k : Kind). Told k kept (state session channel) c [] r reply) (sym same) (tells channel);
 }
 

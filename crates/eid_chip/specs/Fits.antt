@@ -2,9 +2,9 @@
 use Rattle.std.specs.Prelude.{◌≡◌, ℕ, Bool, true, false, List, [], ◌∷◌, Option, Some, None, is_some, is_none, option_map, Result, Ok, Err}
 use Rattle.eid_apdu.specs.Answer.{plain_reply}
 use Rattle.eid_cells.specs.Device.{Device}
-use Rattle.eid_copro.specs.Told.{Told}
+use Rattle.eid_copro.specs.Seen.{CoproSeen}
 use Rattle.eid_copro.specs.declared.ask.Ask.{Ask}
-use Rattle.eid_pace.specs.Asking.{WereAsked}
+use Rattle.eid_copro.specs.Asking.{WereAsked}
 use Rattle.eid_record.specs.Plain.{FullRecord}
 use Rattle.eid_store.specs.declared.durable.MountError.{MountError}
 use Rattle.eid_store.specs.Stands.{stands}
@@ -91,8 +91,8 @@ abbrev pub is_off : Chip → Bool
 is_off chip = is_none chip.life
 
 -- bytes were handled: the coprocessor's log grew by the questions of a moment that follows
-pub record Handles {C : Type 0} (log : C → List Ask) (spare faults : C → ℕ) (told : C → Told) (before after : C) (old : Chip) (device : Device) (cells : List ℕ) (new : Chip) (new_device : Device) (new_cells : List ℕ) (is_silent : Bool) (moment : List Ask → PlainMoment) : Type 0 where
+pub record Handles (before after : CoproSeen) (old : Chip) (device : Device) (cells : List ℕ) (new : Chip) (new_device : Device) (new_cells : List ℕ) (is_silent : Bool) (moment : List Ask → PlainMoment) : Type 0 where
   pub asks : List Ask
-  pub were_asked : WereAsked log spare faults told before after asks
+  pub were_asked : WereAsked before after asks
   pub unasked : is_silent ≡ true → asks ≡ []
   pub follows : Follows old device cells new new_device new_cells (moment asks)

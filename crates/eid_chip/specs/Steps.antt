@@ -4,11 +4,11 @@ use Rattle.std.specs.Prelude.{◌≡◌, ℕ, ◌==◌, ◌||◌, List, [], Opti
 use Rattle.std.specs.Option.{option_or}
 use Rattle.eid_apdu.specs.Command.{PlainCommand}
 use Rattle.eid_apdu.specs.Answer.{PlainReply, spelled}
-use Rattle.eid_copro.specs.Told.{Told as ToldBefore}
+use Rattle.eid_copro.specs.Seen.{CoproSeen}
 use Rattle.eid_copro.specs.declared.ask.Ask.{Ask}
 use Rattle.eid_copro.specs.declared.ask.Answer.{Answer}
 use Rattle.eid_record.specs.Plain.{FullRecord}
-use Rattle.eid_pace.specs.Asking.{WereAsked}
+use Rattle.eid_copro.specs.Asking.{WereAsked}
 use Rattle.eid_sm.specs.declared.channel.Header.{Header}
 use Rattle.eid_sm.specs.Keys.{ChannelState, advanced, next_counter}
 use Rattle.eid_sm.specs.Plain.{plain_of as with_body}
@@ -68,9 +68,9 @@ pub record Told (kind : Kind) (kept : FullRecord) (old : State) (c : PlainComman
   pub left : state_left reaction old.channel ≡ state_due reaction.rule.0 (state_answered reaction.rule.0 (Some kind) c (answers_of asks) old)
 
 -- a command of a known kind put questions, by which the log grew, and was answered by them, in any channel
-pub record Stepped {C : Type 0} (log : C → List Ask) (spare faults : C → ℕ) (told : C → ToldBefore) (before after : C) (kind : Kind) (kept : FullRecord) (session : Session) (c : PlainCommand) (reaction : Reaction) (reply : PlainReply) : Type 0 where
+pub record Stepped (before after : CoproSeen) (kind : Kind) (kept : FullRecord) (session : Session) (c : PlainCommand) (reaction : Reaction) (reply : PlainReply) : Type 0 where
   pub asks : List Ask
-  pub were_asked : WereAsked log spare faults told before after asks
+  pub were_asked : WereAsked before after asks
   pub tells : (channel : Option ChannelState) → Told kind kept (state session channel) c asks reaction reply
 
 abbrev pub as_heard : PlainCommand → Heard
@@ -83,9 +83,9 @@ pub record Answers (kept : FullRecord) (old : State) (heard : Heard) (asks : Lis
   pub left : state_left reaction old.channel ≡ state_due reaction.rule.0 (state_answered reaction.rule.0 (kind_heard old heard) (command_of heard) (answers_of asks) old)
 
 -- a command put questions, by which the log grew, and was answered by them, in any channel
-pub record Reacts {C : Type 0} (log : C → List Ask) (spare faults : C → ℕ) (told : C → ToldBefore) (before after : C) (kept : FullRecord) (session : Session) (c : PlainCommand) (reaction : Reaction) (reply : PlainReply) : Type 0 where
+pub record Reacts (before after : CoproSeen) (kept : FullRecord) (session : Session) (c : PlainCommand) (reaction : Reaction) (reply : PlainReply) : Type 0 where
   pub asks : List Ask
-  pub were_asked : WereAsked log spare faults told before after asks
+  pub were_asked : WereAsked before after asks
   pub answers : (channel : Option ChannelState) → Answers kept (state session channel) (Command c) asks reaction reply
 
 -- the plain command whose body stands in an exchange, where there is one
@@ -93,12 +93,12 @@ abbrev pub plain_in : Exchange → Option Header → Option PlainCommand
 plain_in exchange plain = option_map (λ header. with_body header exchange.body.items) plain
 
 -- bytes were heard, in a channel or without one, and answered
-pub record Responds {C : Type 0} (log : C → List Ask) (spare faults : C → ℕ) (told : C → ToldBefore) (before after : C) (kept : FullRecord) (session : Session) (channel : Option ChannelState) (bytes : List ℕ) (plain : Option PlainCommand) (reaction : Reaction) (reply : PlainReply) : Type 0 where
+pub record Responds (before after : CoproSeen) (kept : FullRecord) (session : Session) (channel : Option ChannelState) (bytes : List ℕ) (plain : Option PlainCommand) (reaction : Reaction) (reply : PlainReply) : Type 0 where
   pub heard : Heard
   pub hears : IsHeard channel bytes heard
   pub is_plain : plain ≡ plain_of heard
   pub asks : List Ask
-  pub were_asked : WereAsked log spare faults told before after asks
+  pub were_asked : WereAsked before after asks
   pub answers : Answers kept (state session channel) heard asks reaction reply
 
 -- the channel while the answer is made: where a protected command was heard, one message later

@@ -70,9 +70,9 @@ fn carry_out<E: Eeprom, C: Coprocessor>(
     reply: &mut Reply,
 ) -> Reaction
     requires fits { stored.Fits store.now (E.device cells.now) (E.cells cells.now) }
-    requires room { 2 ≤ C.spare copro.old }
+    requires room { 2 ≤ (C.seen copro.old).spare }
     requires turn { goes_on_in_run kind ≡ true → next_of session.run ≡ Some kind }
-    ensures answers { Stepped C.log C.spare C.faults C.told copro.old copro.new kind (held (E.cells cells.now)) session (plain_command c.now) result (plain_reply reply.new) }
+    ensures answers { Stepped (C.seen copro.old) (C.seen copro.new) kind (held (E.cells cells.now)) session (plain_command c.now) result (plain_reply reply.new) }
     ensures small { array_vec_len reply.new.content ≤ 2048 }
 {
     match kind {
@@ -99,8 +99,8 @@ fn react<E: Eeprom, C: Coprocessor>(
     reply: &mut Reply,
 ) -> Reaction
     requires fits { stored.Fits store.now (E.device cells.now) (E.cells cells.now) }
-    requires room { 2 ≤ C.spare copro.old }
-    ensures answers { Reacts C.log C.spare C.faults C.told copro.old copro.new (held (E.cells cells.now)) session (plain_command c.now) result (plain_reply reply.new) }
+    requires room { 2 ≤ (C.seen copro.old).spare }
+    ensures answers { Reacts (C.seen copro.old) (C.seen copro.new) (held (E.cells cells.now)) session (plain_command c.now) result (plain_reply reply.new) }
     ensures small { array_vec_len reply.new.content ≤ 2048 }
 {
     let kind = match kind_of(c, &session.run) {
@@ -136,8 +136,8 @@ fn respond<E: Eeprom, C: Coprocessor>(
     exchange: &mut Exchange,
 ) -> Response
     requires fits { stored.Fits store.now (E.device cells.now) (E.cells cells.now) }
-    requires room { 2 ≤ C.spare copro.old }
-    ensures response { Responds C.log C.spare C.faults C.told copro.old copro.new (held (E.cells cells.now)) session None bytes.now (plain_in exchange.new result.plain) result.reaction (plain_reply exchange.new.answer) }
+    requires room { 2 ≤ (C.seen copro.old).spare }
+    ensures response { Responds (C.seen copro.old) (C.seen copro.new) (held (E.cells cells.now)) session None bytes.now (plain_in exchange.new result.plain) result.reaction (plain_reply exchange.new.answer) }
     ensures small { array_vec_len exchange.new.answer.content ≤ 2048 }
 {
     let Ok(c) = read_command(bytes) else {
@@ -163,8 +163,8 @@ fn respond_in<E: Eeprom, C: Coprocessor>(
     exchange: &mut Exchange,
 ) -> Response
     requires fits { stored.Fits store.now (E.device cells.now) (E.cells cells.now) }
-    requires room { 2 ≤ C.spare copro.old }
-    ensures response { Responds C.log C.spare C.faults C.told copro.old copro.new (held (E.cells cells.now)) session (Some channel.old) bytes.now (plain_in exchange.new result.plain) result.reaction (plain_reply exchange.new.answer) }
+    requires room { 2 ≤ (C.seen copro.old).spare }
+    ensures response { Responds (C.seen copro.old) (C.seen copro.new) (held (E.cells cells.now)) session (Some channel.old) bytes.now (plain_in exchange.new result.plain) result.reaction (plain_reply exchange.new.answer) }
     ensures channel { Some channel.new ≡ heard_in result.reaction.rule.0 (Some channel.old) }
     ensures small { array_vec_len exchange.new.answer.content ≤ 2048 }
 {
@@ -191,8 +191,8 @@ fn respond_any<E: Eeprom, C: Coprocessor>(
     exchange: &mut Exchange,
 ) -> Response
     requires fits { stored.Fits store.now (E.device cells.now) (E.cells cells.now) }
-    requires room { 2 ≤ C.spare copro.old }
-    ensures response { Responds C.log C.spare C.faults C.told copro.old copro.new (held (E.cells cells.now)) session channel.old bytes.now (plain_in exchange.new result.plain) result.reaction (plain_reply exchange.new.answer) }
+    requires room { 2 ≤ (C.seen copro.old).spare }
+    ensures response { Responds (C.seen copro.old) (C.seen copro.new) (held (E.cells cells.now)) session channel.old bytes.now (plain_in exchange.new result.plain) result.reaction (plain_reply exchange.new.answer) }
     ensures channel { channel.new ≡ heard_in result.reaction.rule.0 channel.old }
     ensures small { array_vec_len exchange.new.answer.content ≤ 2048 }
 {
@@ -303,8 +303,8 @@ impl Chip {
         copro: &mut C,
     ) -> Handled
         requires sound { IsSound self.old (E.device cells.old) (E.cells cells.old) }
-        requires room { 2 ≤ C.spare copro.old }
-        ensures handles { Handles C.log C.spare C.faults C.told copro.old copro.new self.old (E.device cells.old) (E.cells cells.old) self.new (E.device cells.new) (E.cells cells.new) (is_silent result) (λ asks. handled bytes.now asks result) }
+        requires room { 2 ≤ (C.seen copro.old).spare }
+        ensures handles { Handles (C.seen copro.old) (C.seen copro.new) self.old (E.device cells.old) (E.cells cells.old) self.new (E.device cells.new) (E.cells cells.new) (is_silent result) (λ asks. handled bytes.now asks result) }
         ensures sound { IsSound self.new (E.device cells.new) (E.cells cells.new) }
         ensures silent { is_silent result ≡ is_off self.old }
         ensures same { E.cells cells.new ≡ E.cells cells.old }
@@ -324,8 +324,8 @@ impl Chip {
         exchange: &mut Exchange,
     ) -> HandledIn
         requires sound { IsSound self.old (E.device cells.old) (E.cells cells.old) }
-        requires room { 2 ≤ C.spare copro.old }
-        ensures handles { Handles C.log C.spare C.faults C.told copro.old copro.new self.old (E.device cells.old) (E.cells cells.old) self.new (E.device cells.new) (E.cells cells.new) (is_silent_in result) (λ asks. handled_in bytes.now asks result exchange.new) }
+        requires room { 2 ≤ (C.seen copro.old).spare }
+        ensures handles { Handles (C.seen copro.old) (C.seen copro.new) self.old (E.device cells.old) (E.cells cells.old) self.new (E.device cells.new) (E.cells cells.new) (is_silent_in result) (λ asks. handled_in bytes.now asks result exchange.new) }
         ensures sound { IsSound self.new (E.device cells.new) (E.cells cells.new) }
         ensures silent { is_silent_in result ≡ is_off self.old }
         ensures unsaid { is_silent_in result ≡ true → exchange.new ≡ exchange.old }

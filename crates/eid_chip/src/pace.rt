@@ -61,9 +61,9 @@ pub fn encrypted_nonce<E: Eeprom, C: Coprocessor>(
     reply: &mut Reply,
 ) -> Reaction
     requires fits { stored.Fits store.now (E.device cells.now) (E.cells cells.now) }
-    requires room { 2 ≤ C.spare copro.old }
+    requires room { 2 ≤ (C.seen copro.old).spare }
     requires turn { next_of session.run ≡ Some Kind.EncryptedNonce }
-    ensures told { Stepped C.log C.spare C.faults C.told copro.old copro.new Kind.EncryptedNonce (held (E.cells cells.now)) session (plain_command c.now) result (plain_reply reply.new) }
+    ensures told { Stepped (C.seen copro.old) (C.seen copro.new) Kind.EncryptedNonce (held (E.cells cells.now)) session (plain_command c.now) result (plain_reply reply.new) }
     ensures small { array_vec_len reply.new.content ≤ 2048 }
 {
     let _ = cells;
@@ -96,9 +96,9 @@ pub fn map_nonce<C: Coprocessor>(
     c: &Command<'_>,
     reply: &mut Reply,
 ) -> Reaction
-    requires room { 2 ≤ C.spare copro.old }
+    requires room { 2 ≤ (C.seen copro.old).spare }
     requires turn { next_of session.run ≡ Some Kind.MapNonce }
-    ensures told { (kept : FullRecord) → Stepped C.log C.spare C.faults C.told copro.old copro.new Kind.MapNonce kept session (plain_command c.now) result (plain_reply reply.new) }
+    ensures told { (kept : FullRecord) → Stepped (C.seen copro.old) (C.seen copro.new) Kind.MapNonce kept session (plain_command c.now) result (plain_reply reply.new) }
     ensures small { array_vec_len reply.new.content ≤ 2048 }
 {
     let Some(peer) = point_in(c.body, 0x81) else {
@@ -131,9 +131,9 @@ pub fn perform_key_agreement<C: Coprocessor>(
     c: &Command<'_>,
     reply: &mut Reply,
 ) -> Reaction
-    requires room { 2 ≤ C.spare copro.old }
+    requires room { 2 ≤ (C.seen copro.old).spare }
     requires turn { next_of session.run ≡ Some Kind.PerformKeyAgreement }
-    ensures told { (kept : FullRecord) → Stepped C.log C.spare C.faults C.told copro.old copro.new Kind.PerformKeyAgreement kept session (plain_command c.now) result (plain_reply reply.new) }
+    ensures told { (kept : FullRecord) → Stepped (C.seen copro.old) (C.seen copro.new) Kind.PerformKeyAgreement kept session (plain_command c.now) result (plain_reply reply.new) }
     ensures small { array_vec_len reply.new.content ≤ 2048 }
 {
     let Some(peer) = point_in(c.body, 0x83) else {

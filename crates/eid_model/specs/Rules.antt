@@ -11,7 +11,7 @@ use Rattle.eid_model.specs.declared.kind.Kind.TheVariants.{SelectApplication, Se
 use Rattle.eid_model.specs.Kinds.{same_kind, kinds, has_instruction, has_parameters, is_by_short, file_of_short, file_of_id, card_access, card_security, application_id}
 use Rattle.eid_copro.specs.declared.ask.Answer.{Answer}
 use Rattle.eid_copro.specs.declared.ask.Answer.TheVariants as answers
-use Rattle.eid_pace.specs.Asking.{is_fault}
+use Rattle.eid_copro.specs.Asking.{is_fault}
 use Rattle.eid_pace.specs.Keys.{token}
 use Rattle.eid_pace.specs.Selections.{PlainSelection}
 use Rattle.eid_pace.specs.SelectionIn.{selection_in}

@@ -130,8 +130,8 @@ fn power_off<'a, E: Eeprom>(chip: &mut Chip, cells: &mut E) -> InputRef<'a>
 
 /// The questions that were put since the log had so many.
 fn asks_since<C: Coprocessor>(copro: &C, before: usize) -> &[Ask]
-    requires { before ≤ length (C.log copro.now) }
-    ensures { result.now ≡ drop before (C.log copro.now) }
+    requires { before ≤ length (C.seen copro.now).log }
+    ensures { result.now ≡ drop before (C.seen copro.now).log }
 {
     &copro.log()[before..]
 }
@@ -147,10 +147,10 @@ fn hand_over<E: Eeprom, C: Coprocessor, K: Sink>(
     out: &mut K,
 ) -> Result<(), RunError>
     requires { IsSound chip.old (E.device cells.old) (E.cells cells.old) }
-    ensures did { OnOk result (DidLine (scene chip.old (E.device cells.old) (E.cells cells.old)) (scene chip.new (E.device cells.new) (E.cells cells.new)) (C.log copro.old) (C.log copro.new) (ApduLine bytes.now) (K.seen out.old) (K.seen out.new)) }
-    ensures broke { OnErr result (BrokeOffLine (scene chip.old (E.device cells.old) (E.cells cells.old)) (scene chip.new (E.device cells.new) (E.cells cells.new)) (C.log copro.old) (C.log copro.new) (ApduLine bytes.now) (K.seen out.old) (K.seen out.new)) }
+    ensures did { OnOk result (DidLine (scene chip.old (E.device cells.old) (E.cells cells.old)) (scene chip.new (E.device cells.new) (E.cells cells.new)) (C.seen copro.old).log (C.seen copro.new).log (ApduLine bytes.now) (K.seen out.old) (K.seen out.new)) }
+    ensures broke { OnErr result (BrokeOffLine (scene chip.old (E.device cells.old) (E.cells cells.old)) (scene chip.new (E.device cells.new) (E.cells cells.new)) (C.seen copro.old).log (C.seen copro.new).log (ApduLine bytes.now) (K.seen out.old) (K.seen out.new)) }
     ensures goes_on { GoesOn (scene chip.old (E.device cells.old) (E.cells cells.old)) (scene chip.new (E.device cells.new) (E.cells cells.new)) }
-    ensures told { C.told copro.new ≡ C.told copro.old }
+    ensures told { (C.seen copro.new).told ≡ (C.seen copro.old).told }
     ensures tells { (K.seen out.new).tells ≡ (K.seen out.old).tells }
     ensures later { (K.seen out.old).faults ≤ (K.seen out.new).faults }
     ensures fault { IsErrOf result RunError.SinkFault → Rose (K.seen out.old).faults (K.seen out.new).faults }
@@ -188,10 +188,10 @@ fn run_line<E: Eeprom, C: Coprocessor, K: Sink>(
 ) -> Result<(), RunError>
     requires sound { IsSound chip.old (E.device cells.old) (E.cells cells.old) }
     requires stands { IsSome (stands (E.cells cells.old)) }
-    ensures did { OnOk result (DidLine (scene chip.old (E.device cells.old) (E.cells cells.old)) (scene chip.new (E.device cells.new) (E.cells cells.new)) (C.log copro.old) (C.log copro.new) (plain_line line.now) (K.seen out.old) (K.seen out.new)) }
-    ensures broke { OnErr result (BrokeOffLine (scene chip.old (E.device cells.old) (E.cells cells.old)) (scene chip.new (E.device cells.new) (E.cells cells.new)) (C.log copro.old) (C.log copro.new) (plain_line line.now) (K.seen out.old) (K.seen out.new)) }
+    ensures did { OnOk result (DidLine (scene chip.old (E.device cells.old) (E.cells cells.old)) (scene chip.new (E.device cells.new) (E.cells cells.new)) (C.seen copro.old).log (C.seen copro.new).log (plain_line line.now) (K.seen out.old) (K.seen out.new)) }
+    ensures broke { OnErr result (BrokeOffLine (scene chip.old (E.device cells.old) (E.cells cells.old)) (scene chip.new (E.device cells.new) (E.cells cells.new)) (C.seen copro.old).log (C.seen copro.new).log (plain_line line.now) (K.seen out.old) (K.seen out.new)) }
     ensures goes_on { GoesOn (scene chip.old (E.device cells.old) (E.cells cells.old)) (scene chip.new (E.device cells.new) (E.cells cells.new)) }
-    ensures told { C.told copro.new ≡ C.told copro.old }
+    ensures told { (C.seen copro.new).told ≡ (C.seen copro.old).told }
     ensures tells { (K.seen out.new).tells ≡ (K.seen out.old).tells }
     ensures later { (K.seen out.old).faults ≤ (K.seen out.new).faults }
     ensures fault { IsErrOf result RunError.SinkFault → Rose (K.seen out.old).faults (K.seen out.new).faults }
@@ -222,10 +222,10 @@ pub fn run_script<E: Eeprom, C: Coprocessor, K: Sink>(
     out: &mut K,
 ) -> Result<(), RunError>
     requires { IsSome (stands (E.cells cells.old)) }
-    ensures did { OnOk result ((opening : FullRecord) → stands (E.cells cells.old) ≡ Some opening → DidLines opening (map plain_line lines.now) (E.cells cells.old) (E.cells cells.new) (C.log copro.old) (C.log copro.new) (K.seen out.old) (K.seen out.new)) }
-    ensures broke { OnErr result ((opening : FullRecord) → stands (E.cells cells.old) ≡ Some opening → DidSomeLines opening (map plain_line lines.now) (E.cells cells.old) (C.log copro.old) (C.log copro.new) (K.seen out.old) (K.seen out.new)) }
+    ensures did { OnOk result ((opening : FullRecord) → stands (E.cells cells.old) ≡ Some opening → DidLines opening (map plain_line lines.now) (E.cells cells.old) (E.cells cells.new) (C.seen copro.old).log (C.seen copro.new).log (K.seen out.old) (K.seen out.new)) }
+    ensures broke { OnErr result ((opening : FullRecord) → stands (E.cells cells.old) ≡ Some opening → DidSomeLines opening (map plain_line lines.now) (E.cells cells.old) (C.seen copro.old).log (C.seen copro.new).log (K.seen out.old) (K.seen out.new)) }
     ensures layout { slice_index (E.cells cells.new) 0 ≡ slice_index (E.cells cells.old) 0 }
-    ensures told { C.told copro.new ≡ C.told copro.old }
+    ensures told { (C.seen copro.new).told ≡ (C.seen copro.old).told }
     ensures tells { (K.seen out.new).tells ≡ (K.seen out.old).tells }
     ensures later { (K.seen out.old).faults ≤ (K.seen out.new).faults }
     ensures fault { IsErrOf result RunError.SinkFault → Rose (K.seen out.old).faults (K.seen out.new).faults }

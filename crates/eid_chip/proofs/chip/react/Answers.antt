@@ -18,7 +18,7 @@ returns-in-Err-clause-answers g c =
     let not_named = c.in-Err.ensures in
     record {
       asks = [];
-      were_asked = not_asked copro.log copro.spare copro.faults copro.told c.args.copro.now;
+      were_asked = not_asked (copro.seen c.args.copro.now);
       answers = λ channel.
           name_refused kept (state c.args.session channel) (plain_command c.args.c.now) (refusal c.in-Err.refusal) c.refused.result (plain_reply c.refused.new.reply)
           (not_named.refused kept (state c.args.session channel) []) not_named.lasting.0
@@ -32,7 +32,7 @@ returns-then-c-gt-MAX_REQUEST-clause-answers g c =
     let refused = c.refused-then-c-gt-MAX_REQUEST in
     record {
       asks = [];
-      were_asked = not_asked copro.log copro.spare copro.faults copro.told c.args.copro.now;
+      were_asked = not_asked (copro.seen c.args.copro.now);
       answers = λ channel.
           request_refused kept (state c.args.session channel) (plain_command c.args.c.now) (record { rule = 8; status = 0x6700 }) refused.result (plain_reply refused.new.reply)
           (c.in-Ok.ensures.passed kept (state c.args.session channel) []) (long_request kept (state c.args.session channel) (plain_command c.args.c.now) [] c.if-c-gt-MAX_REQUEST.true)

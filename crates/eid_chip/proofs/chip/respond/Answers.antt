@@ -26,7 +26,7 @@ returns-in_default-clause-response g c =
       hears = λ d spelled short. c.in_default.ensures.only d spelled;
       is_plain = rw c.not_heard.ensures.plain refl;
       asks = [];
-      were_asked = not_asked copro.log copro.spare copro.faults copro.told c.args.copro.now;
+      were_asked = not_asked (copro.seen c.args.copro.now);
       answers =
           hearing_refused kept (state c.args.session None) NoCommand (record { rule = 1; status = 0x6700 }) c.not_heard.result.reaction (plain_reply c.not_heard.new.reply) refl refl
           (ap (λ (r : Rule). r.0) c.not_heard.ensures.reaction.0) c.not_heard.ensures.reaction.1 (c.not_heard.ensures.left None);
@@ -42,7 +42,7 @@ returns-then-c-gt-MAX_BODY-clause-response g c =
       hears = λ d spelled short. too_long c.args.bytes.now (plain_command c.in-Ok.c) d c.in-Ok.ensures.found spelled c.if-c-gt-MAX_BODY.true short;
       is_plain = rw refused.ensures.plain refl;
       asks = [];
-      were_asked = not_asked copro.log copro.spare copro.faults copro.told c.args.copro.now;
+      were_asked = not_asked (copro.seen c.args.copro.now);
       answers =
           hearing_refused kept (state c.args.session None) NoCommand (record { rule = 1; status = 0x6700 }) refused.result.reaction (plain_reply refused.new.reply) refl refl
           (ap (λ (r : Rule). r.0) refused.ensures.reaction.0) refused.ensures.reaction.1 (refused.ensures.left None);

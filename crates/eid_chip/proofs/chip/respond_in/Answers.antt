@@ -19,7 +19,7 @@ returns-in-Err-Missing-clause-response g c =
       hears = c.unwrap.ensures.missing.0 (cc);
       is_plain = rw c.not_heard.ensures.plain refl;
       asks = [];
-      were_asked = not_asked copro.log copro.spare copro.faults copro.told c.args.copro.now;
+      were_asked = not_asked (copro.seen c.args.copro.now);
       answers =
           hearing_refused kept (state c.args.session (Some c.args.channel.now)) MissingObjects (record { rule = 2; status = 0x6987 }) c.not_heard.result.reaction (plain_reply c.not_heard.new.reply) refl refl
           (ap (λ (r : Rule). r.0) c.not_heard.ensures.reaction.0) c.not_heard.ensures.reaction.1 (c.not_heard.ensures.left (Some c.args.channel.now));
@@ -35,7 +35,7 @@ returns-in-Err-Wrong-clause-response g c =
       hears = (λ lacks. let missing = c.unwrap.ensures.missing.1 lacks in absurd (cc), λ d protected. absurd (c.in-Err-Wrong.ensures.only d protected));
       is_plain = rw refused.ensures.plain refl;
       asks = [];
-      were_asked = not_asked copro.log copro.spare copro.faults copro.told c.args.copro.now;
+      were_asked = not_asked (copro.seen c.args.copro.now);
       answers =
           hearing_refused kept (state c.args.session (Some c.args.channel.now)) WrongObjects (record { rule = 3; status = 0x6988 }) refused.result.reaction (plain_reply refused.new.reply) refl refl
           (ap (λ (r : Rule). r.0) refused.ensures.reaction.0) refused.ensures.reaction.1 (refused.ensures.left (Some c.args.channel.now));

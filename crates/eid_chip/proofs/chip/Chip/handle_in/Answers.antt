@@ -15,7 +15,7 @@ returns-in_default-clause-handles g c =
     let copro = g.C.Coprocessor in
     record {
       asks = [];
-      were_asked = not_asked copro.log copro.spare copro.faults copro.told c.args.copro.now;
+      were_asked = not_asked (copro.seen c.args.copro.now);
       unasked = λ silent. refl;
       follows =
           silent_follows c.args.self.now (record { life = c.replace.new.dest }) (g.E.Eeprom.device c.args.cells.now) (g.E.Eeprom.cells c.args.cells.now) c.args.bytes.now
