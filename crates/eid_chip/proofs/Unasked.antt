@@ -1,10 +1,9 @@
 -- Steps that put no question.
-use Rattle.std.proofs.Common.{◌≡◌, sym, ℕ, List, [], Option, refl, subst, arith}
+use Rattle.std.proofs.Common.{◌≡◌, sym, [], Option, refl, subst, arith}
 use Rattle.std.proofs.lemmas.List.{append-nil}
 use Rattle.eid_apdu.specs.Command.{PlainCommand}
 use Rattle.eid_apdu.specs.Answer.{PlainReply}
 use Rattle.eid_copro.specs.Seen.{CoproSeen}
-use Rattle.eid_copro.specs.declared.ask.Ask.{Ask}
 use Rattle.eid_record.specs.Plain.{FullRecord}
 use Rattle.eid_copro.specs.Asking.{WereAsked}
 use Rattle.eid_sm.specs.Keys.{ChannelState}
