@@ -1,0 +1,60 @@
+//! Answers questions to the layers, a line each, so that outside vectors are rows of a file: `command 00b0840700`
+//! is answered by what the bytes are read as. Lines that begin with `#`, and empty ones, are printed
+//! as they are; what is no question is answered by `?`.
+#![tactic(auto)]
+
+mod ciphers;
+mod messages;
+mod objects;
+mod templates;
+mod words;
+
+use std::alloc::{AllocError, Global};
+use std::io;
+use words::{Answer, Unanswered};
+
+/// The answer to a question, by its first word.
+fn answer(alloc: Global, line: &str) -> Answer {
+    let words = words::split(alloc, line)?;
+    let [question, words @ ..] = words.as_slice() else {
+        return Err(Unanswered::Unclear);
+    };
+    match *question {
+        "command" => messages::command(alloc, words),
+        "write-command" => messages::write_command(alloc, words),
+        "reply" => messages::reply(alloc, words),
+        "write-reply" => messages::write_reply(alloc, words),
+        "object" => objects::object(alloc, words),
+        "put" => objects::put(alloc, words),
+        "find" => objects::find(alloc, words),
+        "encrypt" => ciphers::encrypt(alloc, words),
+        "decrypt" => ciphers::decrypt(alloc, words),
+        "cbc-encrypt" => ciphers::cbc_encrypt(alloc, words),
+        "cbc-decrypt" => ciphers::cbc_decrypt(alloc, words),
+        "cmac" => ciphers::cmac(alloc, words),
+        "derive" => ciphers::derive(alloc, words),
+        "pad" => ciphers::pad(alloc, words),
+        "unpad" => ciphers::unpad(alloc, words),
+        "date" => templates::date(alloc, words),
+        "template" => templates::template(alloc, words),
+        "identifier" => templates::identifier(alloc, words),
+        _ => Err(Unanswered::Unclear),
+    }
+}
+
+fn main(rt: HostRuntime) -> io::Result<()> {
+    let alloc = rt.alloc();
+    for line in rt.lines(alloc) {
+        let line = line?;
+        if line.is_empty() || line.starts_with('#') {
+            println!(rt; "{line}")?;
+            continue;
+        }
+        match answer(alloc, line.as_str()) {
+            Ok(text) => println!(rt; "{text}")?,
+            Err(Unanswered::Unclear) => println!(rt; "?")?,
+            Err(Unanswered::NoMemory) => return Err(AllocError.into()),
+        }
+    }
+    Ok(())
+}
