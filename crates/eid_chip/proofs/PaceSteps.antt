@@ -12,8 +12,8 @@ use Rattle.eid_pace.specs.States.{PlainChoice, PlainNonceSent, PlainMapped, Plai
 use Rattle.eid_pace.specs.Selections.{PlainSelection, chosen_by}
 use Rattle.eid_pace.specs.Rules.{password_rule, token_rule}
 use Rattle.eid_pace.specs.SelectionIn.{selection_in}
-use Rattle.eid_pace.specs.Keys.{encrypted_nonce, token}
-use Rattle.eid_pace.specs.Check.{check_given, done_by}
+use Rattle.eid_pace.specs.Keys.{encrypted_nonce}
+use Rattle.eid_pace.specs.Check.{check_given, done_by, terminal_token, chip_token}
 use Rattle.eid_tlv.specs.Objects.{object}
 use Rattle.eid_pace.specs.MapEnds.{MapEnd, NoPair, NoMapping, NoBase, Based, map_asks, map_given}
 use Rattle.eid_pace.specs.AgreeEnds as agree
@@ -180,8 +180,8 @@ pub authenticated : (kept : FullRecord) (old : State) (c : PlainCommand) (agreed
     → Told MutualAuthentication kept old c [] reaction said
 unfolding entered
 authenticated kept old c agreed sent done own reaction said at is body e rule answer left =
-    let parts = token_parts (bytes_eq sent (token agreed.shared agreed.chip_point)) done (done_by agreed) own (token agreed.shared agreed.terminal_point) token_rule e in
-    let right : bytes_eq (data_in c.body) (token agreed.shared agreed.chip_point) ≡ true = rw (← is) parts.0 in
+    let parts = token_parts (bytes_eq sent (terminal_token agreed)) done (done_by agreed) own (chip_token agreed) token_rule e in
+    let right : bytes_eq (data_in c.body) (terminal_token agreed) ≡ true = rw (← is) parts.0 in
     record {
       asked = rw body refl;
       ended = rw (body, at, right) (outcome_is 0 _ reaction said rule (answer ∙ ap (λ (o : List ℕ). data_alone (last_data kept o)) parts.2));

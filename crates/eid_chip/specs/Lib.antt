@@ -1,3 +1,4 @@
+pub mod Passwords
 pub mod Fits
 pub mod Held
 pub mod States

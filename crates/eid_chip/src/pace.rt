@@ -26,7 +26,7 @@ use eid_base::Rule;
 use eid_cells::Eeprom;
 use eid_copro::Coprocessor;
 use eid_model::Kind;
-use eid_pace::{Chosen, Done};
+use eid_pace::{Chosen, Done, rules};
 use eid_record::Record;
 use eid_sm::Channel;
 use eid_store::Store;
@@ -45,7 +45,7 @@ pub fn select_pace(session: Session, c: &Command<'_>, reply: &mut Reply) -> Reac
             },
             reply,
         ),
-        Err(Rule(10)) => refused(BODY_FORM, session, reply),
+        Err(rules::BODY_FORM) => refused(BODY_FORM, session, reply),
         Err(_) => refused(NO_PASSWORD, session, reply),
     }
 }
@@ -117,7 +117,7 @@ pub fn map_nonce<C: Coprocessor>(
                 memory,
             })
         }
-        Err(Rule(52)) => refused(NO_POINT, idle(memory), reply),
+        Err(rules::NO_POINT) => refused(NO_POINT, idle(memory), reply),
         Err(_) => refused(FAULT, idle(memory), reply),
     }
 }
@@ -152,8 +152,8 @@ pub fn perform_key_agreement<C: Coprocessor>(
                 memory,
             })
         }
-        Err(Rule(51)) => refused(SAME_POINT, idle(memory), reply),
-        Err(Rule(52)) => refused(NO_POINT, idle(memory), reply),
+        Err(rules::SAME_POINT) => refused(SAME_POINT, idle(memory), reply),
+        Err(rules::NO_POINT) => refused(NO_POINT, idle(memory), reply),
         Err(_) => refused(FAULT, idle(memory), reply),
     }
 }

@@ -9,7 +9,8 @@ use Rattle.eid_copro.specs.declared.ask.Answer.{Answer}
 use Rattle.eid_copro.specs.declared.ask.Answer.TheVariants as answers
 use Rattle.eid_record.specs.Plain.{FullRecord, PlainRecord, PlainTrustPoint, PlainEffect}
 use Rattle.eid_password.specs.Passwords.{digits_of}
-use Rattle.eid_pace.specs.Keys.{encrypted_nonce, token}
+use Rattle.eid_pace.specs.Check.{chip_token}
+use Rattle.eid_pace.specs.Keys.{encrypted_nonce}
 use Rattle.eid_model.specs.declared.kind.Kind.{Kind}
 use Rattle.eid_model.specs.declared.kind.Kind.TheVariants.{SelectApplication, SelectMasterFile, SelectFile, ReadBinary, SelectPace, EncryptedNonce, MapNonce, PerformKeyAgreement, MutualAuthentication, NoStep}
 use Rattle.eid_model.specs.Bodies.{data_in, authentication_data}
@@ -51,7 +52,7 @@ previous_name (Some point) = object 0x88 point.name
 -- the chip's token in 86, and in 87 and 88 the names of the trust points
 abbrev pub token_reply : PlainRecord → Phase → PlainReply
 token_reply kept (HasSecret agreed) =
-    data_alone (object 0x7C (object 0x86 (token agreed.shared agreed.terminal_point) ++ object 0x87 kept.current.name ++ previous_name kept.previous))
+    data_alone (object 0x7C (object 0x86 (chip_token agreed) ++ object 0x87 kept.current.name ++ previous_name kept.previous))
 token_reply kept phase = status_alone 0x9000
 
 -- the answer to a command that is carried out

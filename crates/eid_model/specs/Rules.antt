@@ -12,7 +12,7 @@ use Rattle.eid_model.specs.Kinds.{same_kind, kinds, has_instruction, has_paramet
 use Rattle.eid_copro.specs.declared.ask.Answer.{Answer}
 use Rattle.eid_copro.specs.declared.ask.Answer.TheVariants as answers
 use Rattle.eid_copro.specs.Asking.{is_fault}
-use Rattle.eid_pace.specs.Keys.{token}
+use Rattle.eid_pace.specs.Check.{terminal_token}
 use Rattle.eid_pace.specs.Selections.{PlainSelection}
 use Rattle.eid_pace.specs.SelectionIn.{selection_in}
 use Rattle.eid_model.specs.Bodies.{no_data, data_in, holds_value, holds_point}
@@ -133,7 +133,7 @@ is_own_point peer answers = false
 
 -- the token is the one that the secret and the chip's point give
 abbrev pub is_token : List ℕ → Phase → Bool
-is_token sent (HasSecret agreed) = bytes_eq sent (token agreed.shared agreed.chip_point)
+is_token sent (HasSecret agreed) = bytes_eq sent (terminal_token agreed)
 is_token sent phase = false
 
 -- whether the command can be heard at all

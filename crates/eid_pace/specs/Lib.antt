@@ -1,4 +1,5 @@
 pub mod Rules
+pub mod Protocols
 pub mod Keys
 pub mod States
 pub mod Selections

@@ -12,7 +12,7 @@ use eid_record::{Password, Record};
 const CAN: u8 = 2;
 
 /// A password was chosen by MSE:Set AT for PACE.
-#[derive(Debug, Drop)]
+#[derive(Drop)]
 pub struct Chosen {
     pub(crate) choice: Choice,
 }
@@ -41,6 +41,7 @@ impl Chosen {
         }
         Ok(Chosen {
             choice: Choice {
+                protocol: selection.protocol,
                 password: Password::Can,
                 template: selection.template,
             },

@@ -5,7 +5,7 @@ use eid_base::{Point, Rule};
 use eid_copro::Coprocessor;
 
 /// The nonce was mapped to a base.
-#[derive(Debug, Drop)]
+#[derive(Drop)]
 pub struct Mapped {
     pub(crate) choice: Choice,
     pub(crate) base: Point,

@@ -5,7 +5,7 @@ use eid_base::{Point, Rule};
 use eid_copro::Coprocessor;
 
 /// A nonce was drawn and sent.
-#[derive(Debug, Drop)]
+#[derive(Drop)]
 pub struct NonceSent {
     pub(crate) choice: Choice,
     pub(crate) nonce: [u8; 16],

@@ -1,13 +1,14 @@
 //! The body that selects PACE (BSI TR-03110-3, MSE:Set AT).
 ghost use Rattle.std.specs.Prelude.{◌≡◌, ℕ, List, [], ◌∷◌, length, Option, Some, IfSome, IsSomeAnd, IsTrue, ◌↔◌, option_map};
-ghost use Rattle.eid_bits.specs.Identifiers.{known_bytes};
 ghost use Rattle.eid_bits.specs.Template.{template_bytes};
 ghost use Rattle.eid_tlv.specs.Lists.{HasValues};
+ghost use Rattle.eid_pace.specs.Protocols.{protocol_bytes};
 ghost use Rattle.eid_pace.specs.Selections.{HasTemplate, IsPaceSelection, PlainSelection, template_value};
 ghost use Rattle.eid_pace.specs.SelectionIn.{selection_in};
 ghost use Rattle.eid_pace.specs.View.{selection_view};
 
-use eid_bits::{Known, Template};
+use crate::protocol::Protocol;
+use eid_bits::Template;
 use eid_tlv::{Found, find};
 
 const PROTOCOL: u16 = 0x80;
@@ -16,9 +17,11 @@ const REFERENCE: u16 = 0x83;
 
 const TEMPLATE: u16 = 0x7F4C;
 
-/// What a selection names: a password by its reference, and the holder's template where there is one.
-#[derive(Clone, Copy, Debug)]
+/// What a selection names: the protocol, a password by its reference, and the holder's template where there is
+/// one.
+#[derive(Clone, Copy)]
 pub struct Selection {
+    pub protocol: Protocol,
     pub reference: u8,
     pub template: Option<Template>,
 }
@@ -27,9 +30,9 @@ pub struct Selection {
 pub fn read_selection(body: &[u8]) -> Option<Selection>
     ensures { option_map selection_view result ≡ selection_in body.now }
 {
-    if !names_protocol(body) {
+    let Some(protocol) = read_protocol(body) else {
         return None;
-    }
+    };
     let Some(reference) = read_reference(body) else {
         return None;
     };
@@ -37,6 +40,7 @@ pub fn read_selection(body: &[u8]) -> Option<Selection>
         return None;
     };
     Some(Selection {
+        protocol,
         reference,
         template,
     })
@@ -53,14 +57,15 @@ fn only_value(body: &[u8], tag: u16) -> Option<&[u8]>
     }
 }
 
-/// Whether the body has one 80, with the protocol.
-fn names_protocol(body: &[u8]) -> bool
-    ensures { IsTrue result ↔ HasValues 0x80 (known_bytes Known.PaceAes128 ∷ []) body.now }
+/// The protocol of the one 80.
+fn read_protocol(body: &[u8]) -> Option<Protocol>
+    ensures found { IfSome result (λ protocol. HasValues 0x80 (protocol_bytes protocol ∷ []) body.now) }
+    ensures only { (protocol : Protocol) → HasValues 0x80 (protocol_bytes protocol ∷ []) body.now → result ≡ Some protocol }
 {
-    match only_value(body, PROTOCOL) {
-        Some(protocol) => protocol == Known::PaceAes128.bytes(),
-        None => false,
-    }
+    let Some(value) = only_value(body, PROTOCOL) else {
+        return None;
+    };
+    Protocol::with_bytes(value)
 }
 
 /// The byte of the one 83.

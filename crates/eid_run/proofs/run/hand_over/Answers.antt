@@ -8,7 +8,7 @@ pub returns-clause-did : goal.returns-clause-did
 returns-clause-did g c =
     let copro = g.C.Coprocessor in
     let done = c.handle_in-came.ensures.handles in
-    let told = c.asks_since-asks.ensures ∙ rw c.log-before.ensures (asks_behind (copro.log c.make_room.new.self) (copro.log c.handle_in-came.new.copro) done.asks done.were_asked.logged) in
+    let told = c.asks_since-asks.ensures ∙ rw c.log-before.ensures (asks_behind (copro.seen c.make_room.new.self).log (copro.seen c.handle_in-came.new.copro).log done.asks done.were_asked.logged) in
     let made = made_told _ _ _ _ _ c.args.bytes.now done.asks _ c.handle_in-came.result c.handle_in-came.new.exchange (view.moment_ref c.moment_of.result) c.make_room.ensures.log done.were_asked.logged done.unasked done.follows told c.moment_of.ensures in
     on_ok _ (did_line _ _ _ _ _ _ _ _ made) c.tell.ensures.whole
 
@@ -16,6 +16,6 @@ pub returns-clause-broke : goal.returns-clause-broke
 returns-clause-broke g c =
     let copro = g.C.Coprocessor in
     let done = c.handle_in-came.ensures.handles in
-    let told = c.asks_since-asks.ensures ∙ rw c.log-before.ensures (asks_behind (copro.log c.make_room.new.self) (copro.log c.handle_in-came.new.copro) done.asks done.were_asked.logged) in
+    let told = c.asks_since-asks.ensures ∙ rw c.log-before.ensures (asks_behind (copro.seen c.make_room.new.self).log (copro.seen c.handle_in-came.new.copro).log done.asks done.were_asked.logged) in
     let made = made_told _ _ _ _ _ c.args.bytes.now done.asks _ c.handle_in-came.result c.handle_in-came.new.exchange (view.moment_ref c.moment_of.result) c.make_room.ensures.log done.were_asked.logged done.unasked done.follows told c.moment_of.ensures in
     on_err _ (part_of_line _ _ _ _ _ _ _ _ made) c.tell.ensures.part
