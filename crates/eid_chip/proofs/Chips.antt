@@ -195,6 +195,7 @@ handles_answer chip running next bytes plain ending r finished reply sent was no
           chip_answers (scene chip was.device was.cells) (living running) (Some (living next)) next_state bytes responds.heard plain responds.asks r finished reply sent was now
           alive refl (ap (λ (s : Store). Some (record { store = s; state = next_state })) store) left written responds.hears responds.is_plain did;
       silent = rw alive refl;
+      life = refl;
       device = did.leaves.2;
       layout = responds.layout;
       sound = rw store did.leaves.0;
@@ -214,6 +215,7 @@ handles_loss chip running after bytes plain ending finished reply was now alive 
           chip_lost (scene chip was.device was.cells) (living running) after bytes responds.heard plain responds.asks finished reply was now
           alive refl off responds.hears responds.is_plain did;
       silent = rw alive refl;
+      life = rw off refl;
       device = did.leaves.1;
       layout = responds.layout;
       sound = rw off tt;
@@ -228,6 +230,7 @@ handles_silence chip after bytes copro device cells off still = record {
   unasked = λ silent. refl;
   follows = silent_follows (scene chip device cells) (scene (record { life = after }) device cells) bytes off still refl refl;
   silent = rw off refl;
+  life = rw still refl;
   device = refl;
   layout = refl;
   sound = rw still tt;

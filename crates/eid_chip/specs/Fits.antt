@@ -90,6 +90,12 @@ is_silence Silence = true
 is_silence (Answer plain finished rule reply sent) = false
 is_silence (Loss plain finished) = false
 
+-- the chip is off after it: it was off, or the power was cut
+abbrev pub leaves_off : Came → Bool
+leaves_off Silence = true
+leaves_off (Answer plain finished rule reply sent) = false
+leaves_off (Loss plain finished) = true
+
 -- what it did to the device
 abbrev pub CameOver : Came → Device → Device → Type 0
 CameOver Silence old new = new ≡ old
@@ -112,6 +118,7 @@ pub record Handles (before after : CoproSeen) (old new : Scene) (bytes : List �
   pub unasked : is_silence came ≡ true → asks ≡ []
   pub follows : Follows old new (moment_of bytes asks came)
   pub silent : is_silence came ≡ is_off old.chip
+  pub life : is_off new.chip ≡ leaves_off came
   pub device : CameOver came old.device new.device
   pub layout : SameLayout old.cells new.cells
   pub sound : IsSound new

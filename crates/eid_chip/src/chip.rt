@@ -330,6 +330,7 @@ impl Chip {
         ensures begins { OnOk result ((opening : FullRecord) → stands (E.cells cells.old) ≡ Some opening
             → Fits (scene self.new (E.device cells.new) (E.cells cells.new)) opening (silent (PoweredOn (found result)) ∷ [])) }
         ensures sound { IsSound (scene self.new (E.device cells.new) (E.cells cells.new)) }
+        ensures on { OnOk result (is_off self.new ≡ false) }
         ensures off { OnErr result (self.new.life ≡ None) }
         ensures bad_image { (result ≡ Err MountError.BadImage) ↔ (stands (E.cells cells.old) ≡ None) }
         ensures untouched { result ≡ Err MountError.BadImage → E.cells cells.new ≡ E.cells cells.old }

@@ -19,7 +19,7 @@ use Rattle.eid_model.specs.Runs.{answers_of}
 use Rattle.eid_model.specs.Sessions.{channel}
 use Rattle.eid_model.specs.Rules.{Heard, NoCommand, MissingObjects, WrongObjects, Command}
 use Rattle.eid_model.specs.Answers.{Outcome, outcome, question, due}
-use Rattle.eid_model.specs.Legal.{IsHeardPlain, IsHeardProtected, IsHeard, AreAsked, IsMoment, IsPowered, IsHandled, IsLegalFor, IsLegalMoment, AreLegal, answered, silent, situation_after}
+use Rattle.eid_model.specs.Legal.{IsHeardPlain, IsHeardProtected, IsHeard, AreAsked, IsMoment, IsPowered, IsHandled, IsLegalFor, IsLegalMoment, AreLegal, answered, silent, situation_after, IsOnlyJournal}
 use Rattle.eid_model.specs.Ledger.{books, books_more, pending, kept}
 use Rattle.eid_model.proofs.KeyBytes.{channel_bytes}
 
@@ -183,3 +183,7 @@ one_journal source opening (m ∷ a) (n ∷ b) p q s t lines f g =
     let from_n : AnswersFrom source (asked (n ∷ a)) = subst (λ (moments : List PlainMoment). AnswersFrom source (asked (n ∷ moments))) before g in
     let same : m ≡ n = same_for source m.input n.input opening a m n f from_n p.0 legal (nothing_pending opening a s.0) s.1 (rw before at t.1) parts.1 in
     ap (λ (x : PlainMoment). x ∷ a) same ∙ ap (λ (l : List PlainMoment). n ∷ l) (sym before)
+
+-- a journal without a cut is the only one
+pub only_journal : (source : Source) (opening : FullRecord) (moments : List PlainMoment) → AreLegal opening moments → AreSteady moments → AnswersFrom source (asked moments) → IsOnlyJournal source opening moments
+only_journal source opening moments legal steady told other of_other its_steady same answered = one_journal source opening other moments of_other legal its_steady steady same answered told

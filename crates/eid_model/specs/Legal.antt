@@ -3,6 +3,7 @@ use Rattle.std.specs.Prelude.{◌≡◌, ℕ, ◌<◌, ◌≤◌, ◌==◌, ◌|
 use Rattle.eid_apdu.specs.Command.{PlainCommand, Spells}
 use Rattle.eid_apdu.specs.Answer.{PlainReply, spelled}
 use Rattle.eid_copro.specs.Asks.{fits}
+use Rattle.eid_copro.specs.Told.{Source, AnswersFrom}
 use Rattle.eid_copro.specs.declared.ask.Ask.{Ask}
 use Rattle.eid_copro.specs.declared.ask.Question.{Question}
 use Rattle.eid_copro.specs.declared.ask.Answer.{Answer}
@@ -10,7 +11,7 @@ use Rattle.eid_record.specs.Plain.{FullRecord, PlainEffect}
 use Rattle.eid_sm.specs.Keys.{ChannelState, next_counter}
 use Rattle.eid_sm.specs.Commands.{IsProtected, LacksObjects}
 use Rattle.eid_sm.specs.Replies.{sealed}
-use Rattle.eid_model.specs.Moments.{Event, PoweredOn, PoweredOff, Received, PlainMoment, on, live}
+use Rattle.eid_model.specs.Moments.{Event, PoweredOn, PoweredOff, Received, PlainMoment, on, live, script, asked, AreSteady}
 use Rattle.eid_model.specs.Runs.{answers_of}
 use Rattle.eid_model.specs.Sessions.{state_of, channel}
 use Rattle.eid_model.specs.Rules.{Heard, NoCommand, MissingObjects, WrongObjects, Command, plain_of, Situation}
@@ -110,3 +111,9 @@ IsLegalMoment opening before m = IsLegalFor m.input opening before m
 abbrev pub AreLegal : FullRecord → List PlainMoment → Type 0
 AreLegal opening [] = Unit {0}
 AreLegal opening (m ∷ before) = IsLegalMoment opening before m × AreLegal opening before
+
+-- no other journal without a cut is legal for this opening record, these inputs and this source of the coprocessor's
+-- answers
+abbrev pub IsOnlyJournal : Source → FullRecord → List PlainMoment → Type 0
+IsOnlyJournal source opening moments =
+    (other : List PlainMoment) → AreLegal opening other → AreSteady other → script other ≡ script moments → AnswersFrom source (asked other) → other ≡ moments
