@@ -7,7 +7,7 @@ use eid_base::NoMemory;
 use std::alloc::Global;
 
 /// What the words ask for.
-#[derive(Clone, Copy, Debug)]
+#[derive(Clone, Copy)]
 pub enum Words<'a> {
     /// To run a script on an image with the model coprocessor.
     Run {
