@@ -8,9 +8,10 @@ use crate::program::program;
 use eid_base::{MemoryFolder, MemorySink};
 use std::alloc::AllocError;
 
-/// A configuration, but for its `pin` and its `card_access`.
+/// A configuration, but for its `card_access`.
 #[rattlefmt::skip]
-const CHIP: &str = "can = '654321'
+const CHIP: &str = "pin = '123456'
+can = '654321'
 puk = '0123456789'
 date = '260101'
 trust_name = 'DECVCAAT00001'
@@ -26,9 +27,6 @@ dg8 = '3139393030333135'
 dg17 = '0000000000000000'
 dg18 = '02761100000000'
 ";
-
-/// The `pin`.
-const PIN: &str = "pin = '123456'\n";
 
 /// An EF.CardAccess of two bytes.
 const ACCESS: &str = "card_access = '3100'\n";
@@ -51,33 +49,46 @@ fn joined(rt: &HostRuntime, pieces: &[&str]) -> Result<String, AllocError> {
     Ok(text)
 }
 
-/// A folder with these files, whose listed calls fail.
-fn folder_of(
+/// The files of a folder: names with their bytes.
+type Files = Vec<(String, Vec<u8>)>;
+
+/// Puts a file behind others.
+fn push_file(
     rt: &HostRuntime,
-    files: &[(&str, &[u8])],
-    fail: &[u32],
-) -> Result<MemoryFolder, AllocError> {
-    let alloc = rt.alloc();
-    let mut all = Vec::new(alloc);
-    for (name, bytes) in files {
-        all.push((
-            String::from_str(alloc, name)?,
-            Vec::from_slice(alloc, bytes)?,
-        ))?;
-    }
-    Ok(MemoryFolder::new(alloc, all, Vec::from_slice(alloc, fail)?))
+    files: &mut Files,
+    name: &str,
+    bytes: &[u8],
+) -> Result<(), AllocError> {
+    files.push((
+        String::from_str(rt.alloc(), name)?,
+        Vec::from_slice(rt.alloc(), bytes)?,
+    ))?;
+    Ok(())
+}
+
+/// A folder with these files, of which one call fails, 0 for none.
+fn folder_of(rt: &HostRuntime, files: Files, fail: u32) -> Result<MemoryFolder, AllocError> {
+    let fails = Vec::from_slice(rt.alloc(), &[fail])?;
+    Ok(MemoryFolder::new(rt.alloc(), files, fails))
+}
+
+/// The configuration with this EF.CardAccess.
+fn chip(rt: &HostRuntime, access: &str) -> Result<String, AllocError> {
+    joined(rt, &[CHIP, access])
 }
 
 /// The image that `make` makes of the configuration with this EF.CardAccess.
 fn image(rt: &HostRuntime, access: &str) -> Result<Vec<u8>, AllocError> {
-    let chip = joined(rt, &[PIN, CHIP, access])?;
-    let mut files = folder_of(rt, &[("chip", chip.as_bytes())], &[])?;
+    let chip = chip(rt, access)?;
+    let mut files = Vec::new(rt.alloc());
+    push_file(rt, &mut files, "chip", chip.as_bytes())?;
+    let mut folder = folder_of(rt, files, 0)?;
     let mut out = MemorySink::new(rt.alloc(), Vec::new(rt.alloc()));
     let make = words(rt, "make chip image")?;
-    if program(rt.alloc(), make.as_slice(), &mut files, &mut out).status() != 0 {
+    if program(rt.alloc(), make.as_slice(), &mut folder, &mut out).status() != 0 {
         return Ok(Vec::new(rt.alloc()));
     }
-    Vec::from_slice(rt.alloc(), files.file("image").unwrap_or(&[]))
+    Vec::from_slice(rt.alloc(), folder.file("image").unwrap_or(&[]))
 }
 
 /// Whether the name holds these bytes.

@@ -1,5 +1,5 @@
 //! What a call of the program ends in and prints, over folders and sinks that may fail.
-use super::{ACCESS, CHIP, PIN, holds, image, joined, words};
+use super::{ACCESS, chip, folder_of, holds, image, push_file, words};
 use crate::exit::Exit;
 use crate::program::program;
 use eid_base::{MemoryFolder, MemorySink};
@@ -19,8 +19,8 @@ const FIRST_QUESTION: &str =
     "on 0\napdu 0022c1a40f800a04007f00070202040202830102\n plain 00 22 c1a4 800a04007f00070202040202830102 0\n finished 0\n rule 0\n answer 9000\n sent 9000\napdu 10860000027c0000\n plain 10 86 0000 7c00 256\n ask nonce = 374708fff7719dd5979ec875d56cd228\n finished 0\n rule 0\n answer 7c128010dd19df18f5215646bdf27199eee4adf39000\n sent 7c128010dd19df18f5215646bdf27199eee4adf39000\n";
 
 /// The texts that lie in the folder of a call, by name. Beside them lie `image`, its front `short` of 65,535 bytes,
-/// `long`, which is 1,048,577 empty lines, and the configurations of `push_configs`.
-const TEXTS: [(&str, &str); 7] = [
+/// the configuration `chip` of another image, `long`, which is 1,048,577 empty lines, and `text`, which a call brings.
+const TEXTS: &[(&str, &str)] = &[
     ("empty", ""),
     ("script", "on\noff\n"),
     ("group", "on\napdu 00B0840000\n"),
@@ -31,6 +31,9 @@ const TEXTS: [(&str, &str); 7] = [
     ),
     ("bad", "on\nof\n"),
     ("answers", "fault"),
+    ("no_pin", "can = '654321'\npuk = '0123456789'\n"),
+    ("layout_2", "layout = 2\ncan = '654321'\n"),
+    ("pin_twice", "pin = '123456'\npin = '123456'\n"),
 ];
 
 /// Calls: what each shows, its words, the status that it ends with, the line or key that it names, and what it prints.
@@ -55,8 +58,7 @@ const CALLS: &[(&str, &str, u8, u32, &str)] = &[
     ("answers that are too long", "replay image script long", 8, 0, ""),
     ("a configuration that is too long", "make long new", 6, 0, ""),
     ("a configuration without pin", "make no_pin new", 6, 3, ""),
-    ("the first refused key decides", "make no_pin_and_layout_2 new", 6, 1, ""),
-    ("a data group that is a number", "make data_group_7 new", 6, 20, ""),
+    ("the first refused key decides", "make layout_2 new", 6, 1, ""),
     ("a key that stands twice", "make pin_twice new", 6, 0, ""),
 ];
 
@@ -77,7 +79,7 @@ const FAULTS: &[(&str, &str, u32, u32, u8, &str)] = &[
     ("a replay has four calls of the folder", "replay image script answers", 5, 0, 0, "on 0\noff\n"),
     ("the configuration is not read", "make chip image", 1, 0, 2, ""),
     ("the image of a configuration is not written", "make chip image", 2, 0, 2, ""),
-    ("`make` has two calls of the folder and none of the sink", "make chip image", 3, 1, 0, ""),
+    ("`make` has two calls of the folder and none of the sink", "make chip new", 3, 1, 0, ""),
     ("the image to be shown is not read", "show image", 1, 0, 2, ""),
     ("the text is not printed", "show image", 0, 1, 7, ""),
     ("`show` has one call of the folder and one of the sink", "show image", 2, 2, 0, SHOWN),
@@ -106,29 +108,6 @@ const REFUSALS: &[(&str, u8, &str, u32)] = &[
     ("answers: a space at the end", 8, "fault \n", 1),
 ];
 
-/// A file of this name.
-fn file(rt: &HostRuntime, name: &str, bytes: &[u8]) -> Result<(String, Vec<u8>), AllocError> {
-    Ok((
-        String::from_str(rt.alloc(), name)?,
-        Vec::from_slice(rt.alloc(), bytes)?,
-    ))
-}
-
-/// The configuration of the image, and four that are refused.
-fn push_configs(rt: &HostRuntime, files: &mut Vec<(String, Vec<u8>)>) -> Result<(), AllocError> {
-    let configs: [(&str, &[&str]); 5] = [
-        ("chip", &[PIN, CHIP, ACCESS]),
-        ("no_pin", &[CHIP, ACCESS]),
-        ("no_pin_and_layout_2", &["layout = 2\n", CHIP, ACCESS]),
-        ("data_group_7", &[PIN, CHIP, ACCESS, "dg1 = 7\n"]),
-        ("pin_twice", &[PIN, PIN, CHIP, ACCESS]),
-    ];
-    for (name, pieces) in configs {
-        files.push(file(rt, name, joined(rt, pieces)?.as_bytes())?)?;
-    }
-    Ok(())
-}
-
 /// The folder of a call, of which one call fails.
 fn folder_of_call(
     rt: &HostRuntime,
@@ -138,19 +117,21 @@ fn folder_of_call(
 ) -> Result<MemoryFolder, AllocError> {
     let mut files = Vec::new(rt.alloc());
     for (name, content) in TEXTS {
-        files.push(file(rt, name, content.as_bytes())?)?;
+        push_file(rt, &mut files, name, content.as_bytes())?;
     }
-    push_configs(rt, &mut files)?;
-    files.push(file(rt, "image", cells)?)?;
-    let mut short = file(rt, "short", cells)?;
-    short.1.truncate(65_535);
-    files.push(short)?;
+    push_file(
+        rt,
+        &mut files,
+        "chip",
+        chip(rt, "card_access = ''\n")?.as_bytes(),
+    )?;
+    push_file(rt, &mut files, "image", cells)?;
+    push_file(rt, &mut files, "short", &cells[..cells.len().min(65_535)])?;
     let mut long = Vec::new(rt.alloc());
     long.resize(1_048_577, b'\n')?;
-    files.push(file(rt, "long", long.as_slice())?)?;
-    files.push(file(rt, "text", text.as_bytes())?)?;
-    let fails = Vec::from_slice(rt.alloc(), &[fail])?;
-    Ok(MemoryFolder::new(rt.alloc(), files, fails))
+    push_file(rt, &mut files, "long", long.as_slice())?;
+    push_file(rt, &mut files, "text", text.as_bytes())?;
+    folder_of(rt, files, fail)
 }
 
 /// What a call came to.

@@ -1,42 +1,50 @@
-//! Sessions of worked examples: each command with its rule and its answer.
-use super::{ACCESS, folder_of, holds, image, joined, words};
+//! Sessions of worked examples, with their traces. A separate simulator in Python computed the traces.
+use super::{ACCESS, folder_of, holds, image, joined, push_file, words};
 use crate::program::program;
 use eid_base::MemorySink;
 use std::alloc::AllocError;
 use std::test::Fail;
 
-/// A command, the number of the rule that refuses it or 0, and its answer.
-type Command = (&'static str, &'static str, &'static str);
+/// The model coprocessor begins at 0.
+const RUN: &str = "run image script 0";
 
-/// The commands between a power on and the end.
-struct Session {
-    /// What the row shows.
-    shows: &'static str,
-    /// The line of the configuration with EF.CardAccess.
-    access: &'static str,
-    /// The answers of a replay; without them the model coprocessor begins at 0.
-    answers: Option<&'static [&'static str]>,
-    /// What is sent.
-    commands: &'static [Command],
-}
+const REPLAY: &str = "replay image script answers";
 
-/// PACE with the CAN, from its selection to the tokens, by the model coprocessor from 0.
+// PACE with the CAN, from its selection to the tokens, by the model coprocessor from 0, and the trace of each step.
 #[rattlefmt::skip]
-const SELECT_CAN: Command = ("0022c1a424800a04007f000702020402028301027f4c12060904007f00070301020253050000009807", "0", "9000");
+const SELECT_CAN: &str = "apdu 0022c1a424800a04007f000702020402028301027f4c12060904007f00070301020253050000009807\n";
 
 #[rattlefmt::skip]
-const NONCE: Command = ("10860000027c0000", "0", "7c128010dd19df18f5215646bdf27199eee4adf39000");
+const NONCE: &str = "apdu 10860000027c0000\n";
 
 #[rattlefmt::skip]
-const MAP: Command = ("10860000457c43814104000000000000000000000000000000000000000000000000e3e10338a6bccd8b000000000000000000000000000000000000000000000000000000000000000000", "0", "7c438241040000000000000000000000000000000000000000000000006d300153a979d16700000000000000000000000000000000000000000000000000000000000000009000");
+const MAP: &str = "apdu 10860000457c43814104000000000000000000000000000000000000000000000000e3e10338a6bccd8b000000000000000000000000000000000000000000000000000000000000000000\n";
 
 #[rattlefmt::skip]
-const AGREE: Command = ("10860000457c438341040000000000000000000000000000000000000000000000004743b10dccc908a7000000000000000000000000000000000000000000000000000000000000000000", "0", "7c43844104000000000000000000000000000000000000000000000000ef5a4277298455b900000000000000000000000000000000000000000000000000000000000000009000");
+const AGREE: &str = "apdu 10860000457c438341040000000000000000000000000000000000000000000000004743b10dccc908a7000000000000000000000000000000000000000000000000000000000000000000\n";
 
 #[rattlefmt::skip]
-const TOKEN: Command = ("008600000c7c0a8508b5507fac391ab3fd00", "0", "7c1986081cd74679bd54f330870d444543564341415430303030319000");
+const TOKEN: &str = "apdu 008600000c7c0a8508b5507fac391ab3fd00\n";
 
-/// Answers to its questions, and the second pair with the point that the terminal sends.
+#[rattlefmt::skip]
+const ON_TOLD: &str = "on 0\n";
+
+#[rattlefmt::skip]
+const SELECT_CAN_TOLD: &str = "apdu 0022c1a424800a04007f000702020402028301027f4c12060904007f00070301020253050000009807\n plain 00 22 c1a4 800a04007f000702020402028301027f4c12060904007f00070301020253050000009807 0\n finished 0\n rule 0\n answer 9000\n sent 9000\n";
+
+#[rattlefmt::skip]
+const NONCE_TOLD: &str = "apdu 10860000027c0000\n plain 10 86 0000 7c00 256\n ask nonce = 374708fff7719dd5979ec875d56cd228\n finished 0\n rule 0\n answer 7c128010dd19df18f5215646bdf27199eee4adf39000\n sent 7c128010dd19df18f5215646bdf27199eee4adf39000\n";
+
+#[rattlefmt::skip]
+const MAP_TOLD: &str = "apdu 10860000457c43814104000000000000000000000000000000000000000000000000e3e10338a6bccd8b000000000000000000000000000000000000000000000000000000000000000000\n plain 10 86 0000 7c43814104000000000000000000000000000000000000000000000000e3e10338a6bccd8b0000000000000000000000000000000000000000000000000000000000000000 256\n ask pair - = 0000000000000000000000000000000000000000000000007c3ccd10bb7ec37b 040000000000000000000000000000000000000000000000006d300153a979d1670000000000000000000000000000000000000000000000000000000000000000\n ask map 374708fff7719dd5979ec875d56cd228 0000000000000000000000000000000000000000000000007c3ccd10bb7ec37b 04000000000000000000000000000000000000000000000000e3e10338a6bccd8b0000000000000000000000000000000000000000000000000000000000000000 = 04000000000000000000000000000000000000000000000000ed51c048cbd1bd910000000000000000000000000000000000000000000000000000000000000000\n finished 0\n rule 0\n answer 7c438241040000000000000000000000000000000000000000000000006d300153a979d16700000000000000000000000000000000000000000000000000000000000000009000\n sent 7c438241040000000000000000000000000000000000000000000000006d300153a979d16700000000000000000000000000000000000000000000000000000000000000009000\n";
+
+#[rattlefmt::skip]
+const AGREE_TOLD: &str = "apdu 10860000457c438341040000000000000000000000000000000000000000000000004743b10dccc908a7000000000000000000000000000000000000000000000000000000000000000000\n plain 10 86 0000 7c438341040000000000000000000000000000000000000000000000004743b10dccc908a70000000000000000000000000000000000000000000000000000000000000000 256\n ask pair 04000000000000000000000000000000000000000000000000ed51c048cbd1bd910000000000000000000000000000000000000000000000000000000000000000 = 000000000000000000000000000000000000000000000000692865c9a376a1a9 04000000000000000000000000000000000000000000000000ef5a4277298455b90000000000000000000000000000000000000000000000000000000000000000\n ask agree 000000000000000000000000000000000000000000000000692865c9a376a1a9 040000000000000000000000000000000000000000000000004743b10dccc908a70000000000000000000000000000000000000000000000000000000000000000 = 000000000000000000000000000000000000000000000000f723a331f121bd3f\n finished 0\n rule 0\n answer 7c43844104000000000000000000000000000000000000000000000000ef5a4277298455b900000000000000000000000000000000000000000000000000000000000000009000\n sent 7c43844104000000000000000000000000000000000000000000000000ef5a4277298455b900000000000000000000000000000000000000000000000000000000000000009000\n";
+
+#[rattlefmt::skip]
+const TOKEN_TOLD: &str = "apdu 008600000c7c0a8508b5507fac391ab3fd00\n plain 00 86 0000 7c0a8508b5507fac391ab3fd 256\n finished 0\n rule 0\n answer 7c1986081cd74679bd54f330870d444543564341415430303030319000\n sent 7c1986081cd74679bd54f330870d444543564341415430303030319000\n";
+
+// Answers to its questions, and the second pair with the point that the terminal sends.
 #[rattlefmt::skip]
 const NONCE_ANSWER: &str = "nonce 374708fff7719dd5979ec875d56cd228\n";
 
@@ -52,70 +60,53 @@ const PAIR_OF_THE_TERMINAL: &str = "pair 000000000000000000000000000000000000000
 #[rattlefmt::skip]
 const ACCESS_OF_100_BYTES: &str = "card_access = '31620000000000000000000000000000000000000000000000000000000000000000000000000000000000000000000000000000000000000000000000000000000000000000000000000000000000000000000000000000000000000000000000000000'\n";
 
+/// A session: what it shows, the line of the configuration with EF.CardAccess, the words, and in pieces the answers of
+/// a replay, the script, and the trace.
+type Session = (
+    &'static str,
+    &'static str,
+    &'static str,
+    &'static [&'static str],
+    &'static [&'static str],
+    &'static [&'static str],
+);
+
 /// The sessions, by what they show.
 #[rattlefmt::skip]
-static SESSIONS: [Session; 8] = [
-    Session { shows: "after power on SELECT of the application is carried out", access: ACCESS, answers: None, commands: &[("00A4040C09E80704007F00070302", "0", "9000")] },
-    Session { shows: "a READ BINARY gives what is left of 100 bytes", access: ACCESS_OF_100_BYTES, answers: None, commands: &[("00B09C6400", "0", "9000"), ("00B09C6500", "38", "6b00"), ("00B09C00C8", "0", "316200000000000000000000000000000000000000000000000000000000000000000000000000000000000000000000000000000000000000000000000000000000000000000000000000000000000000000000000000000000000000000000000000006282")] },
-    Session { shows: "each refusal has its rule and status", access: ACCESS, answers: None, commands: &[("00B0", "1", "6700"), ("00FF0000", "5", "6d00"), ("00A4000000", "6", "6a86"), ("00A4040C00", "10", "6a80"), ("00A4040C02A000", "13", "6a82"), ("00B0000000", "12", "6986")] },
-    Session { shows: "PACE with the CAN opens a channel, in which a command counts once", access: ACCESS, answers: None, commands: &[SELECT_CAN, NONCE, MAP, AGREE, TOKEN, ("0cb09d000d9701008e08b31aafca60fc90af00", "0", "30009000"), ("0cb084000d9701008e0818b9dc8abcd582de00", "26", "6982"), ("0cb084000d9701008e0818b9dc8abcd582de00", "3", "6988"), ("0cb09d000d9701008e08ed9c031c3d8e290200", "4", "6e00")] },
-    Session { shows: "a missing answer is a fault, and the next step is none", access: ACCESS, answers: Some(&[NONCE_ANSWER]), commands: &[SELECT_CAN, NONCE, ("10860000457c43814104000000000000000000000000000000000000000000000000e3e10338a6bccd8b000000000000000000000000000000000000000000000000000000000000000000", "50", "6f00"), ("10860000457c43814104000000000000000000000000000000000000000000000000e3e10338a6bccd8b000000000000000000000000000000000000000000000000000000000000000000", "9", "6985")] },
-    Session { shows: "the chip's point is not the terminal's", access: ACCESS, answers: Some(&[NONCE_ANSWER, PAIR_ANSWER, MAP_ANSWER, PAIR_OF_THE_TERMINAL]), commands: &[SELECT_CAN, NONCE, MAP, ("10860000457c438341040000000000000000000000000000000000000000000000004743b10dccc908a7000000000000000000000000000000000000000000000000000000000000000000", "51", "6300")] },
-    Session { shows: "a nonce that maps to no point is a wrong body", access: ACCESS, answers: Some(&[NONCE_ANSWER, PAIR_ANSWER, "map none\n"]), commands: &[SELECT_CAN, NONCE, ("10860000457c43814104000000000000000000000000000000000000000000000000e3e10338a6bccd8b000000000000000000000000000000000000000000000000000000000000000000", "52", "6a80")] },
-    Session { shows: "the PIN cannot be chosen yet", access: ACCESS, answers: None, commands: &[("0022C1A40F800A04007F00070202040202830103", "11", "6a88")] },
+const SESSIONS: &[Session] = &[
+    ("after power on SELECT of the application is carried out", ACCESS, RUN, &[], &["on\n", "apdu 00a4040c09e80704007f00070302\n"], &[ON_TOLD, "apdu 00a4040c09e80704007f00070302\n plain 00 a4 040c e80704007f00070302 0\n finished 0\n rule 0\n answer 9000\n sent 9000\n"]),
+    ("a READ BINARY gives what is left of 100 bytes", ACCESS_OF_100_BYTES, RUN, &[], &["on\n", "apdu 00b09c6400\n", "apdu 00b09c6500\n", "apdu 00b09c00c8\n"], &[ON_TOLD, "apdu 00b09c6400\n plain 00 b0 9c64 - 256\n finished 0\n rule 0\n answer 9000\n sent 9000\n", "apdu 00b09c6500\n plain 00 b0 9c65 - 256\n finished 0\n rule 38\n answer 6b00\n sent 6b00\n", "apdu 00b09c00c8\n plain 00 b0 9c00 - 200\n finished 0\n rule 0\n answer 316200000000000000000000000000000000000000000000000000000000000000000000000000000000000000000000000000000000000000000000000000000000000000000000000000000000000000000000000000000000000000000000000000006282\n sent 316200000000000000000000000000000000000000000000000000000000000000000000000000000000000000000000000000000000000000000000000000000000000000000000000000000000000000000000000000000000000000000000000000006282\n"]),
+    ("each refusal has its rule and status", ACCESS, RUN, &[], &["on\n", "apdu 00b0\n", "apdu 00ff0000\n", "apdu 00a4000000\n", "apdu 00a4040c00\n", "apdu 00a4040c02a000\n", "apdu 00b0000000\n"], &[ON_TOLD, "apdu 00b0\n plain none\n finished 0\n rule 1\n answer 6700\n sent 6700\n", "apdu 00ff0000\n plain 00 ff 0000 - 0\n finished 0\n rule 5\n answer 6d00\n sent 6d00\n", "apdu 00a4000000\n plain 00 a4 0000 - 256\n finished 0\n rule 6\n answer 6a86\n sent 6a86\n", "apdu 00a4040c00\n plain 00 a4 040c - 256\n finished 0\n rule 10\n answer 6a80\n sent 6a80\n", "apdu 00a4040c02a000\n plain 00 a4 040c a000 0\n finished 0\n rule 13\n answer 6a82\n sent 6a82\n", "apdu 00b0000000\n plain 00 b0 0000 - 256\n finished 0\n rule 12\n answer 6986\n sent 6986\n"]),
+    ("PACE with the CAN opens a channel, in which a command counts once", ACCESS, RUN, &[], &["on\n", SELECT_CAN, NONCE, MAP, AGREE, TOKEN, "apdu 0cb09d000d9701008e08b31aafca60fc90af00\n", "apdu 0cb084000d9701008e0818b9dc8abcd582de00\n", "apdu 0cb084000d9701008e0818b9dc8abcd582de00\n", "apdu 0cb09d000d9701008e08ed9c031c3d8e290200\n"], &[ON_TOLD, SELECT_CAN_TOLD, NONCE_TOLD, MAP_TOLD, AGREE_TOLD, TOKEN_TOLD, "apdu 0cb09d000d9701008e08b31aafca60fc90af00\n plain 00 b0 9d00 - 256\n finished 0\n rule 0\n answer 30009000\n sent 87110192ff27d0d4186ce3ac2fe13745c89e8c990290008e082bb58fdaedff79b39000\n", "apdu 0cb084000d9701008e0818b9dc8abcd582de00\n plain 00 b0 8400 - 256\n finished 0\n rule 26\n answer 6982\n sent 990269828e0841467b601b9038456982\n", "apdu 0cb084000d9701008e0818b9dc8abcd582de00\n plain none\n finished 0\n rule 3\n answer 6988\n sent 6988\n", "apdu 0cb09d000d9701008e08ed9c031c3d8e290200\n plain 0c b0 9d00 9701008e08ed9c031c3d8e2902 256\n finished 0\n rule 4\n answer 6e00\n sent 6e00\n"]),
+    ("a missing answer is a fault, and the next step is none", ACCESS, REPLAY, &[NONCE_ANSWER], &["on\n", SELECT_CAN, NONCE, MAP, MAP], &[ON_TOLD, SELECT_CAN_TOLD, NONCE_TOLD, "apdu 10860000457c43814104000000000000000000000000000000000000000000000000e3e10338a6bccd8b000000000000000000000000000000000000000000000000000000000000000000\n plain 10 86 0000 7c43814104000000000000000000000000000000000000000000000000e3e10338a6bccd8b0000000000000000000000000000000000000000000000000000000000000000 256\n ask pair - = fault\n finished 0\n rule 50\n answer 6f00\n sent 6f00\n", "apdu 10860000457c43814104000000000000000000000000000000000000000000000000e3e10338a6bccd8b000000000000000000000000000000000000000000000000000000000000000000\n plain 10 86 0000 7c43814104000000000000000000000000000000000000000000000000e3e10338a6bccd8b0000000000000000000000000000000000000000000000000000000000000000 256\n finished 0\n rule 9\n answer 6985\n sent 6985\n"]),
+    ("the chip's point is not the terminal's", ACCESS, REPLAY, &[NONCE_ANSWER, PAIR_ANSWER, MAP_ANSWER, PAIR_OF_THE_TERMINAL], &["on\n", SELECT_CAN, NONCE, MAP, AGREE], &[ON_TOLD, SELECT_CAN_TOLD, NONCE_TOLD, MAP_TOLD, "apdu 10860000457c438341040000000000000000000000000000000000000000000000004743b10dccc908a7000000000000000000000000000000000000000000000000000000000000000000\n plain 10 86 0000 7c438341040000000000000000000000000000000000000000000000004743b10dccc908a70000000000000000000000000000000000000000000000000000000000000000 256\n ask pair 04000000000000000000000000000000000000000000000000ed51c048cbd1bd910000000000000000000000000000000000000000000000000000000000000000 = 000000000000000000000000000000000000000000000000692865c9a376a1a9 040000000000000000000000000000000000000000000000004743b10dccc908a70000000000000000000000000000000000000000000000000000000000000000\n finished 0\n rule 51\n answer 6300\n sent 6300\n"]),
+    ("a nonce that maps to no point is a wrong body", ACCESS, REPLAY, &[NONCE_ANSWER, PAIR_ANSWER, "map none\n"], &["on\n", SELECT_CAN, NONCE, MAP], &[ON_TOLD, SELECT_CAN_TOLD, NONCE_TOLD, "apdu 10860000457c43814104000000000000000000000000000000000000000000000000e3e10338a6bccd8b000000000000000000000000000000000000000000000000000000000000000000\n plain 10 86 0000 7c43814104000000000000000000000000000000000000000000000000e3e10338a6bccd8b0000000000000000000000000000000000000000000000000000000000000000 256\n ask pair - = 0000000000000000000000000000000000000000000000007c3ccd10bb7ec37b 040000000000000000000000000000000000000000000000006d300153a979d1670000000000000000000000000000000000000000000000000000000000000000\n ask map 374708fff7719dd5979ec875d56cd228 0000000000000000000000000000000000000000000000007c3ccd10bb7ec37b 04000000000000000000000000000000000000000000000000e3e10338a6bccd8b0000000000000000000000000000000000000000000000000000000000000000 = none\n finished 0\n rule 52\n answer 6a80\n sent 6a80\n"]),
+    ("the PIN cannot be chosen yet", ACCESS, RUN, &[], &["on\n", "apdu 0022c1a40f800a04007f00070202040202830103\n"], &[ON_TOLD, "apdu 0022c1a40f800a04007f00070202040202830103\n plain 00 22 c1a4 800a04007f00070202040202830103 0\n finished 0\n rule 11\n answer 6a88\n sent 6a88\n"]),
 ];
 
-/// The script of the commands, and the lines of their rules and answers.
-fn script_of(rt: &HostRuntime, commands: &[Command]) -> Result<(String, String), AllocError> {
-    let mut script = String::from_str(rt.alloc(), "on\n")?;
-    let mut told = String::new(rt.alloc());
-    for (command, rule, answer) in commands {
-        script.push_str(joined(rt, &["apdu ", command, "\n"])?.as_str())?;
-        told.push_str(joined(rt, &[" rule ", rule, "\n answer ", answer, "\n"])?.as_str())?;
-    }
-    Ok((script, told))
-}
-
-/// The lines of a trace that have a rule or an answer.
-fn rules_and_answers(rt: &HostRuntime, trace: &[u8]) -> Result<Vec<u8>, AllocError> {
-    let mut told = Vec::new(rt.alloc());
-    for line in trace.split(|c| *c == b'\n') {
-        if line.starts_with(b" rule ") || line.starts_with(b" answer ") {
-            told.extend_from_slice(line)?;
-            told.push(b'\n')?;
-        }
-    }
-    Ok(told)
-}
-
-/// Whether the commands are refused and answered as the row says, and the image is left.
+/// Whether the session has this trace, and leaves the image.
 fn is_so(rt: &HostRuntime, session: &Session) -> Result<bool, AllocError> {
-    let cells = image(rt, session.access)?;
-    let (script, told) = script_of(rt, session.commands)?;
-    let (said, answers) = match session.answers {
-        Some(answers) => ("replay image script answers", joined(rt, answers)?),
-        None => ("run image script 0", String::new(rt.alloc())),
-    };
-    let files = [
-        ("image", cells.as_slice()),
-        ("script", script.as_bytes()),
-        ("answers", answers.as_bytes()),
-    ];
-    let mut folder = folder_of(rt, &files, &[])?;
+    let (_, access, said, answers, script, told) = session;
+    let cells = image(rt, access)?;
+    let mut files = Vec::new(rt.alloc());
+    push_file(rt, &mut files, "image", cells.as_slice())?;
+    push_file(rt, &mut files, "script", joined(rt, script)?.as_bytes())?;
+    push_file(rt, &mut files, "answers", joined(rt, answers)?.as_bytes())?;
+    let mut folder = folder_of(rt, files, 0)?;
     let mut out = MemorySink::new(rt.alloc(), Vec::new(rt.alloc()));
     let spoken = words(rt, said)?;
     let exit = program(rt.alloc(), spoken.as_slice(), &mut folder, &mut out);
     Ok(
         exit.status() == 0
-            && rules_and_answers(rt, out.bytes())?.as_slice() == told.as_bytes()
+            && out.bytes() == joined(rt, told)?.as_bytes()
             && holds(&folder, "image", cells.as_slice()),
     )
 }
 
 #[test]
-fn each_command_has_its_rule_and_answer(rt: HostRuntime) -> Result<(), Fail> {
-    for session in &SESSIONS {
-        assert!(rt; is_so(&rt, session)?, "{}", session.shows);
+fn each_session_has_its_trace(rt: HostRuntime) -> Result<(), Fail> {
+    for session in SESSIONS {
+        assert!(rt; is_so(&rt, session)?, "{}", session.0);
     }
     Ok(())
 }
