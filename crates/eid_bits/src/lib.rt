@@ -11,8 +11,3 @@ pub use date::{BadDate, Date6};
 pub use identifier::Known;
 pub use lookup::known;
 pub use template::{BadTemplate, Template};
-
-#[cfg(test)]
-mod identifier_tests;
-#[cfg(test)]
-mod tests;

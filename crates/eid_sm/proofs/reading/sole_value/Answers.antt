@@ -1,6 +1,6 @@
 use Rattle.std.proofs.Common.{[]}
 use Rattle.eid_sm.proofs.PartFacts.{one_object, not_empty}
-use Rattle.eid_sm.proofs.reading.only_value.Goals as goal
+use Rattle.eid_sm.proofs.reading.sole_value.Goals as goal
 
 pub returns-in_default-clause-only : goal.returns-in_default-clause-only
 returns-in_default-clause-only c = λ v e.

@@ -1,7 +1,7 @@
 use Rattle.std.proofs.Common.{◌≡◌, ℕ, ◌-◌, length, get_or, Some, arith, sym, ap, ◌∙◌}
 use Rattle.eid_cmac.proofs.PaddingFacts.{padded_at, padded_once, none_padded}
-use Rattle.eid_cmac.proofs.padding.unpad.Goals as goal
-use Rattle.eid_cmac.proofs.padding.unpad.Goals.{else-bytes-end-via-then-bytes-end+else-bytes-end-le16, else-bytes-end-via-else-bytes-end}
+use Rattle.eid_cmac.proofs.whole_blocks.unpad.Goals as goal
+use Rattle.eid_cmac.proofs.whole_blocks.unpad.Goals.{else-bytes-end-via-then-bytes-end+else-bytes-end-le16, else-bytes-end-via-else-bytes-end}
 
 -- the mark stands at the padding's place
 pub returns-then-bytes-end-le16-clause-only : goal.returns-then-bytes-end-le16-clause-only

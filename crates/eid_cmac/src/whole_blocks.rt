@@ -6,15 +6,17 @@ use eid_base::Full;
 
 const PADDING: [u8; 16] = [0x80, 0, 0, 0, 0, 0, 0, 0, 0, 0, 0, 0, 0, 0, 0, 0];
 
-// The padding behind so many bytes.
-fn padding(size: usize) -> &'static [u8]
+/// The padding behind so many bytes: 80, and then 00 up to a multiple of 16 bytes (ISO/IEC 7816-4).
+pub fn padding(size: usize) -> &'static [u8]
     ensures { result.now ≡ padding size }
 {
     &PADDING[..16 - size % 16]
 }
 
 /// Pads the whole buffer with 80 and then 00 up to a multiple of 16 bytes (ISO/IEC 7816-4).
-/// `Full` comes exactly where that does not fit; the buffer is then unchanged.
+///
+/// # Errors
+/// `Full` exactly where that does not fit; the buffer is then as before.
 pub fn pad<const N: usize>(out: &mut ArrayVec<u8, N>) -> Result<(), Full>
     ensures exactly { IsOk result ↔ (length (padded out.old.items) ≤ N) }
     ensures ok { OnOk result (out.new.items ≡ padded out.old.items) }

@@ -1,5 +1,5 @@
 use Rattle.eid_sm.proofs.Lists.{absent}
-use Rattle.eid_sm.proofs.reading.has_no_code.Goals as goal
+use Rattle.eid_sm.proofs.reading.has_no_mac.Goals as goal
 
 pub returns-in_default : goal.returns-in_default
 returns-in_default c =
