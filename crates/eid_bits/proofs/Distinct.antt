@@ -25,3 +25,8 @@ pub only_one : (bytes : List ℕ) (result : Option Known) → result ≡ find (�
     → (identifier : Known) → known_bytes identifier ≡ bytes → result ≡ Some identifier
 only_one bytes result is identifier same =
     is ∙ ap (λ b. find (λ other. bytes_eq (known_bytes other) b) (map (λ row. row.0) TABLE)) (sym same) ∙ found_itself identifier
+
+pub one_identifier : (a b : Known) → known_bytes a ≡ known_bytes b → a ≡ b
+one_identifier a b same =
+    let both : Some a ≡ Some b = only_one (known_bytes b) (Some a) (sym (found_itself a) ∙ ap (λ bytes. find (λ other. bytes_eq (known_bytes other) bytes) (map (λ row. row.0) TABLE)) same) b refl in
+    cc

@@ -15,6 +15,11 @@ pub fn known(bytes: &[u8]) -> Option<Known>
     first_with(&TABLE, bytes)
 }
 
+/// No two identifiers have the same bytes.
+pub fn law_one_identifier()
+    ensures { (a b : Known) → known_bytes a ≡ known_bytes b → a ≡ b }
+{}
+
 /// The first identifier of a table with these bytes.
 fn first_with(table: &[(Known, &[u8])], bytes: &[u8]) -> Option<Known>
     ensures found { IfSome result (λ identifier. known_bytes identifier ≡ bytes.now) }

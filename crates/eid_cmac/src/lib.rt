@@ -8,4 +8,4 @@ mod whole_blocks;
 
 pub use derivation::derive;
 pub use mac::{cmac, mac8};
-pub use whole_blocks::{pad, padding, unpad};
+pub use whole_blocks::{law_one_padded, pad, padding, unpad};

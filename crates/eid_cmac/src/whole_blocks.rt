@@ -49,3 +49,8 @@ pub fn unpad(bytes: &[u8]) -> Option<usize>
     }
     None
 }
+
+/// Bytes are the padded form of at most one string.
+pub fn law_one_padded()
+    ensures { (a b : List ℕ) → padded a ≡ padded b → a ≡ b }
+{}

@@ -1,7 +1,7 @@
 -- What was found of a tag is what a list says of it.
 use Rattle.std.proofs.Common.{◌≡◌, ◌≤◌, ℕ, List, [], ◌∷◌, length, refl, sym, ◌∙◌, ap, subst, arith}
 use Rattle.eid_tlv.specs.Objects.{Object}
-use Rattle.eid_tlv.specs.Lists.{IsListOf, values, HasValues, IsAmong, IsFound}
+use Rattle.eid_tlv.specs.Lists.{IsListOf, values, HasValues, HasOnly, IsAmong, IsFound}
 use Rattle.eid_tlv.specs.declared.lists.Found.{Found}
 use Rattle.eid_tlv.specs.declared.lists.Found.TheVariants.{NoList, Absent, Once, Repeated}
 use Rattle.eid_tlv.proofs.Walks.{one_list}
@@ -25,3 +25,9 @@ not_once tag bytes NoList value not is has = is has.list has.is_list
 not_once tag bytes Absent value not is has = let none = found_values tag bytes Absent (value ∷ []) is has in cc
 not_once tag bytes (Once v) value not is has = not v refl
 not_once tag bytes Repeated value not is has = let more = found_values tag bytes Repeated (value ∷ []) is has in omega (arith, more)
+
+-- one list has one value of a tag
+pub one_value : (tag : ℕ) (bytes v w : List ℕ) → HasOnly tag v bytes → HasOnly tag w bytes → v ≡ w
+one_value tag bytes v w p q =
+    let same : w ∷ [] ≡ v ∷ [] = sym (same_values tag bytes q.list p.list (w ∷ []) q.is_list p.is_list q.those) ∙ p.those in
+    cc

@@ -60,6 +60,11 @@ pub fn only_value(bytes: &[u8], tag: u16) -> Option<&[u8]>
     }
 }
 
+/// In a list of data objects a tag has at most one value as its only one.
+pub fn law_one_value()
+    ensures { (tag : ℕ) (bytes v w : List ℕ) → HasOnly tag v bytes → HasOnly tag w bytes → v ≡ w }
+{}
+
 /// Bytes are at most one list of data objects.
 pub fn law_one_list()
     ensures { (bytes : List ℕ) (a b : List Object) → IsListOf a bytes → IsListOf b bytes → a ≡ b }

@@ -40,6 +40,11 @@ pub fn next(bytes: &[u8]) -> Result<(Tlv<'_>, &[u8]), TlvError>
     read_object(bytes)
 }
 
+/// At the front of bytes stands at most one data object.
+pub fn law_one_object()
+    ensures { (bytes : List ℕ) (s t : ℕ) (u v a b : List ℕ) → BeginsWith bytes s u a → BeginsWith bytes t v b → (s ≡ t) × (u ≡ v) × (a ≡ b) }
+{}
+
 /// The same, with each error in the terms of what was read.
 fn read_object(bytes: &[u8]) -> Result<(Tlv<'_>, &[u8]), TlvError>
     ensures found { IfOk result (λ r. BeginsWith bytes.now r.0.tag r.0.value.now r.1.now) }
