@@ -1,6 +1,6 @@
 -- What the run of a script ended in, and what it did: for the commands that read an image and a script,
 -- and then perhaps more.
-use Rattle.std.proofs.Common.{slice_index, ◌≡◌, ◌≢◌, ℕ, ◌≤◌, Bool, true, false, IsTrue, List, [], length, Option, Some, None, Ok, Err, refl, ap, ◌∙◌, arith, inl, inr}
+use Rattle.std.proofs.Common.{◌≡◌, ◌≢◌, ℕ, ◌≤◌, Bool, true, false, IsTrue, List, [], ◌++◌, length, Option, Some, None, Ok, Err, refl, sym, ap, ◌∙◌, subst, arith, inl, inr}
 use Rattle.std.specs.Prelude.{IsSome}
 use Rattle.eid_base.specs.declared.codes.RunError.{RunError}
 use Rattle.eid_base.specs.declared.codes.RunError.TheVariants as run
@@ -10,25 +10,25 @@ use Rattle.eid_base.specs.Faults.{Rose}
 use Rattle.eid_base.specs.Seen.{FolderSeen, SinkSeen, SameFiles, SameOthers, IsLeftBy}
 use Rattle.eid_record.specs.Plain.{FullRecord}
 use Rattle.eid_store.specs.Stands.{stands}
-use Rattle.eid_store.proofs.Laws.{first_layout}
 use Rattle.eid_copro.specs.Model.{model_answer}
 use Rattle.eid_copro.specs.Script.{script_answer}
 use Rattle.eid_copro.specs.Told.{Source, Told, Start, Listed, KeepsTo, AnswersFrom}
 use Rattle.eid_copro.specs.declared.ask.Answer.{Answer}
 use Rattle.eid_copro.specs.declared.ask.Ask.{Ask}
-use Rattle.eid_model.specs.Moments.{PlainMoment, asked, AreSteady}
-use Rattle.eid_model.specs.Legal.{AreLegal, kept}
-use Rattle.eid_model.proofs.Journals.{one_journal}
+use Rattle.eid_copro.specs.Seen.{CoproSeen}
+use Rattle.eid_cells.specs.Device.{Device}
+use Rattle.eid_model.specs.Moments.{PlainMoment, asked}
+use Rattle.eid_model.specs.Ledger.{kept, pending, MayHold}
 use Rattle.eid_script.specs.Scripts.{ScriptLine}
-use Rattle.eid_run.specs.Runs.{journal, DidLines, DidSomeLines}
+use Rattle.eid_run.specs.Runs.{journal, outside, DidLines, DidSomeLines}
 use Rattle.eid.specs.declared.exit.Exit.{Exit}
 use Rattle.eid.specs.declared.exit.Exit.TheVariants.{Done, Usage, FileFault, NoMemory, BadImage, BadScript, BadConfig, SinkFault, BadAnswers}
 use Rattle.eid.specs.Commands.{Command, Run, Replay}
 use Rattle.eid.specs.Exits.{exit_broken, exit_not_stored}
 use Rattle.eid.specs.Inputs.{image_in, script_in, answers_in, unless_refused, expected, IsRefused}
-use Rattle.eid.specs.Run.{Setup, IsGiven, RanWhole, IsOnlyJournal, RunFinished, RunBrokeOff, RunNotStored, HasSource, IsEndOfRun}
+use Rattle.eid.specs.Run.{Setup, IsGiven, resting, RanWhole, RunFinished, RunBrokeOff, RunNotStored, HasSource, IsEndOfRun}
 use Rattle.eid.specs.Works.{Finished, BrokeOff, NotStored, Meets}
-use Rattle.eid.proofs.Inputs.{image_of_cells, some_of}
+use Rattle.eid.proofs.Inputs.{image_of_cells, record_long, some_of}
 use Rattle.eid.proofs.Refusals.{rose_later, same_twice, others_after, refused, refused_later}
 
 -- The command reads an image and then a script, and what it ends in where these are good.
@@ -97,10 +97,6 @@ pub answers_refused : (image script_name answers_name : List ℕ) (old middle ne
 answers_refused image script_name answers_name old middle new sink opening cells lines e o read third refusal = refused_later (Replay image script_name answers_name) old middle new sink _ e o.same o.later third refusal
     (λ x told is. expected_rest (Replay image script_name answers_name) image script_name old.file _ opening lines (replay_reads image script_name answers_name old.file) (o.stood told) (read told) ∙ ap (λ r. unless_refused r Done) (rw (o.same.files told answers_name) at is))
 
--- the only steady journal
-only_journal : (source : Source) (opening : FullRecord) (moments : List PlainMoment) → AreLegal opening moments → AreSteady moments → AnswersFrom source (asked moments) → IsOnlyJournal source opening moments
-only_journal source opening moments legal steady told = (steady, λ other of_other its_steady same answered. one_journal source opening other moments of_other legal its_steady steady same answered told)
-
 -- the two coprocessors have their answers from their sources
 pub model_source : (start : ℕ) (told : Told) → told ≡ Start start → HasSource told (model_answer start)
 model_source start told is = λ log keeps. rw is at keeps
@@ -113,23 +109,32 @@ pub answers_from : (source : Source) (told told_now : Told) (log : List Ask) (mo
 answers_from source told told_now log moments has same keeps logged = has (asked moments) (rw (same, logged) at keeps)
 
 -- the script ran to its end
-pub ran_whole : (source : Source) (s : Setup) (told told_now : Told) (log : List Ask) (new_cells : List ℕ) (before now : SinkSeen) → HasSource told source → told_now ≡ told → KeepsTo told_now log → DidLines s.opening s.lines s.cells new_cells [] log before now → now.tells ≡ before.tells → RanWhole source s new_cells before now
-ran_whole source s told told_now log new_cells before now has same keeps did tells = record {
-  log = log;
+pub ran_whole : (source : Source) (s : Setup) (copro copro_now : CoproSeen) (device : Device) (new_cells : List ℕ) (before now : SinkSeen) → HasSource copro.told source → copro.log ≡ [] → KeepsTo copro_now.told copro_now.log
+    → DidLines s.opening s.lines (outside resting s.cells copro before) (outside device new_cells copro_now now) → now.tells ≡ before.tells → RanWhole source s new_cells before now
+ran_whole source s copro copro_now device new_cells before now has unasked keeps did tells = record {
+  copro = copro;
+  unasked = unasked;
+  copro_now = copro_now;
+  device = device;
   did = did;
-  told = answers_from source told told_now log (journal did.happened) has same keeps did.logged;
+  told = answers_from source copro.told copro_now.told copro_now.log (journal did.happened) has did.ran.told keeps (did.ran.logged ∙ ap (λ (l : List Ask). l ++ asked (journal did.happened)) unasked);
   tells = tells;
 }
 
 -- the run broke off
-pub broke_off : (image : List ℕ) (source : Source) (s : Setup) (folder : FolderSeen) (before now : SinkSeen) (error : RunError) (told told_now : Told) (log : List Ask) → HasSource told source → told_now ≡ told → KeepsTo told_now log → DidSomeLines s.opening s.lines s.cells [] log before now → now.tells ≡ before.tells → (error ≡ run.SinkFault → Rose before.faults now.faults) → IsEndOfRun image source s folder folder before now (exit_broken error)
-broke_off image source s folder before now error told told_now log has same keeps did tells rose = at error rose
+pub broke_off : (image : List ℕ) (source : Source) (s : Setup) (folder : FolderSeen) (copro copro_now : CoproSeen) (device : Device) (cells : List ℕ) (before now : SinkSeen) (error : RunError) → HasSource copro.told source → copro.log ≡ [] → KeepsTo copro_now.told copro_now.log
+    → DidSomeLines s.opening s.lines (outside resting s.cells copro before) (outside device cells copro_now now) → now.tells ≡ before.tells → (error ≡ run.SinkFault → Rose before.faults now.faults) → IsEndOfRun image source s folder folder before now (exit_broken error)
+broke_off image source s folder copro copro_now device cells before now error has unasked keeps did tells rose = at error rose
   where
     end : RunBrokeOff source s folder folder before now
     end = record {
-      log = log;
+      copro = copro;
+      unasked = unasked;
+      copro_now = copro_now;
+      device = device;
+      cells = cells;
       did = did;
-      told = answers_from source told told_now log (journal did.happened) has same keeps did.logged;
+      told = answers_from source copro.told copro_now.told copro_now.log (journal did.happened) has did.ran.told keeps (did.ran.logged ∙ ap (λ (l : List Ask). l ++ asked (journal did.happened)) unasked);
       tells = tells;
       files = record { tells = refl; files = λ told name. refl };
     }
@@ -139,14 +144,15 @@ broke_off image source s folder before now error told told_now log has same keep
     at run.NoMemory rose = inl end
 
 -- all was done
-pub all_done : (image : List ℕ) (source : Source) (s : Setup) (old new : FolderSeen) (before now : SinkSeen) (new_cells : List ℕ) → stands s.cells ≡ Some s.opening → RanWhole source s new_cells before now → length new_cells ≡ 65536 → slice_index new_cells 0 ≡ slice_index s.cells 0 → (IsTrue old.tells → new.file image ≡ Some new_cells) → SameOthers image old new → RunFinished image source s old new before now
-all_done image source s old new before now new_cells stood ran long layout stored others = record {
+pub all_done : (image : List ℕ) (source : Source) (s : Setup) (old new : FolderSeen) (before now : SinkSeen) (new_cells : List ℕ) → RanWhole source s new_cells before now → length new_cells ≡ 65536 → (IsTrue old.tells → new.file image ≡ Some new_cells) → SameOthers image old new → RunFinished image source s old new before now
+all_done image source s old new before now new_cells ran long stored others = record {
   new_cells = new_cells;
   ran = ran;
-  only = only_journal source s.opening (journal ran.did.happened) ran.did.legal (ran.did.steady (first_layout s.cells s.opening stood)) ran.told;
+  steady = λ plain. ran.did.ran.unplanned refl refl plain;
+  only = λ steady. ran.did.ran.only source ran.told steady;
   stored = stored;
-  stands = image_of_cells new_cells (kept s.opening (journal ran.did.happened)) long ran.did.cells;
-  layout = layout;
+  stands = subst (λ (o : Option FullRecord). MayHold (pending s.opening (journal ran.did.happened)) (kept s.opening (journal ran.did.happened)) o) (sym (record_long new_cells long)) ran.did.ran.cells;
+  layout = ran.did.ran.layout;
   others = others;
 }
 
@@ -167,6 +173,7 @@ finished_from : (image : List ℕ) (source : Source) (s : Setup) (old middle new
 finished_from image source s old middle new before now same f = record {
   new_cells = f.new_cells;
   ran = f.ran;
+  steady = f.steady;
   only = f.only;
   stored = λ told. f.stored (rw same.tells told);
   stands = f.stands;
@@ -175,7 +182,17 @@ finished_from image source s old middle new before now same f = record {
 }
 
 broke_off_from : (source : Source) (s : Setup) (old middle new : FolderSeen) (before now : SinkSeen) → SameFiles old middle → RunBrokeOff source s middle new before now → RunBrokeOff source s old new before now
-broke_off_from source s old middle new before now same b = record { log = b.log; did = b.did; told = b.told; tells = b.tells; files = same_twice old middle new same b.files }
+broke_off_from source s old middle new before now same b = record {
+  copro = b.copro;
+  unasked = b.unasked;
+  copro_now = b.copro_now;
+  device = b.device;
+  cells = b.cells;
+  did = b.did;
+  told = b.told;
+  tells = b.tells;
+  files = same_twice old middle new same b.files;
+}
 
 not_stored_from : (image : List ℕ) (source : Source) (s : Setup) (old middle new : FolderSeen) (before now : SinkSeen) → SameFiles old middle → RunNotStored image source s middle new before now → RunNotStored image source s old new before now
 not_stored_from image source s old middle new before now same n = record {

@@ -28,6 +28,11 @@ record_of_cells cells full long stood =
     let right : nat_eq (length cells) 65536 ≡ true = rw long refl in
     rw right stood
 
+pub record_long : (cells : List ℕ) → length cells ≡ 65536 → record_of cells ≡ stands cells
+record_long cells long =
+    let right : nat_eq (length cells) 65536 ≡ true = rw long refl in
+    rw right refl
+
 pub image_of_cells : (cells : List ℕ) (full : FullRecord) → length cells ≡ 65536 → stands cells ≡ Some full → image_in (Some cells) ≡ Ok full
 image_of_cells cells full long stood = image_read (Some cells) cells full refl (record_of_cells cells full long stood)
 

@@ -1,5 +1,5 @@
 -- What the run of a script does. This project's own.
-use Rattle.std.specs.Prelude.{◌≡◌, ◌⊎◌, ℕ, IsTrue, List, [], Some, Ok, slice_index}
+use Rattle.std.specs.Prelude.{◌≡◌, ◌⊎◌, ℕ, true, false, IsTrue, List, [], Some, Ok, slice_index}
 use Rattle.eid_base.specs.Faults.{Rose}
 use Rattle.eid_base.specs.Seen.{FolderSeen, SinkSeen, SameFiles, SameOthers, IsLeftBy}
 use Rattle.eid_record.specs.Plain.{FullRecord}
@@ -8,12 +8,16 @@ use Rattle.eid_copro.specs.Script.{script_answer}
 use Rattle.eid_copro.specs.Told.{Source, Told, KeepsTo, AnswersFrom}
 use Rattle.eid_copro.specs.declared.ask.Answer.{Answer}
 use Rattle.eid_copro.specs.declared.ask.Ask.{Ask}
-use Rattle.eid_model.specs.Moments.{PlainMoment, script, asked, AreSteady}
-use Rattle.eid_model.specs.Legal.{AreLegal, kept}
+use Rattle.eid_copro.specs.Seen.{CoproSeen}
+use Rattle.eid_cells.specs.Device.{Device}
+use Rattle.eid_model.specs.Moments.{asked, AreSteady}
+use Rattle.eid_model.specs.Legal.{IsOnlyJournal}
+use Rattle.eid_model.specs.Ledger.{kept, pending, MayHold}
 use Rattle.eid_script.specs.Scripts.{ScriptLine}
-use Rattle.eid_run.specs.Runs.{journal, DidLines, DidSomeLines}
+use Rattle.eid_run.specs.Runs.{journal, has_plan, outside, DidLines, DidSomeLines}
 use Rattle.eid.specs.declared.exit.Exit.{Exit}
 use Rattle.eid.specs.declared.exit.Exit.TheVariants.{Done, Usage, FileFault, NoMemory, BadImage, BadScript, BadConfig, SinkFault, BadAnswers}
+use Rattle.eid.specs.Images.{record_of}
 use Rattle.eid.specs.Inputs.{image_in, script_in, answers_in}
 
 -- What a run begins with: the opening record, the cells that stand for it, and the lines of the script.
@@ -27,38 +31,47 @@ setup opening cells lines = record { opening = opening; cells = cells; lines = l
 
 -- the files give it
 pub record IsGiven (image script_name : List ℕ) (old : FolderSeen) (s : Setup) : Type 0 where
+  pub is_record : record_of s.cells ≡ Some s.opening
   pub stood : IsTrue old.tells → image_in (old.file image) ≡ Ok s.opening
   pub held : IsTrue old.tells → old.file image ≡ Some s.cells
   pub read : IsTrue old.tells → script_in (old.file script_name) ≡ Ok s.lines
 
--- The script ran to its end, and the answers that the coprocessor gave are those of the source. Its log,
--- which was empty, has the questions of the moments.
+-- the device that a run begins with: it has no power, and no cut is planned
+abbrev pub resting : Device
+resting = record { has_power = false; told = true; planned = 0; cuts = 0 }
+
+-- The script ran to its end over such a device with the image's cells, and the answers that the coprocessor gave, which
+-- had been asked nothing, are those of the source.
 pub record RanWhole (source : Source) (s : Setup) (new_cells : List ℕ) (before now : SinkSeen) : Type 0 where
-  pub log : List Ask
-  pub did : DidLines s.opening s.lines s.cells new_cells [] log before now
+  pub copro : CoproSeen
+  pub unasked : copro.log ≡ []
+  pub copro_now : CoproSeen
+  pub device : Device
+  pub did : DidLines s.opening s.lines (outside resting s.cells copro before) (outside device new_cells copro_now now)
   pub told : AnswersFrom source (asked (journal did.happened))
   pub tells : now.tells ≡ before.tells
 
--- no other steady journal is legal for this record, these lines and this source of the answers
-abbrev pub IsOnlyJournal : Source → FullRecord → List PlainMoment → Type 0
-IsOnlyJournal source opening moments =
-    AreSteady moments × ((other : List PlainMoment) → AreLegal opening other → AreSteady other → script other ≡ script moments → AnswersFrom source (asked other) → other ≡ moments)
-
--- a run of a script: all of it done. The image then has cells that stand for the record kept, of the
--- same layout, and no other name changed.
+-- a run of a script: all of it done. The image then has cells that stand for the record kept, or for that with the effect
+-- that is pending, of the same layout, and no other name changed. Without a `cut` line no power was cut; and where none
+-- was, no other journal without a cut is legal for this record, these lines and this source of the answers.
 pub record RunFinished (image : List ℕ) (source : Source) (s : Setup) (old new : FolderSeen) (before now : SinkSeen) : Type 0 where
   pub new_cells : List ℕ
   pub ran : RanWhole source s new_cells before now
-  pub only : IsOnlyJournal source s.opening (journal ran.did.happened)
+  pub steady : has_plan ran.did.happened ≡ false → AreSteady (journal ran.did.happened)
+  pub only : AreSteady (journal ran.did.happened) → IsOnlyJournal source s.opening (journal ran.did.happened)
   pub stored : IsTrue old.tells → new.file image ≡ Some new_cells
-  pub stands : image_in (Some new_cells) ≡ Ok (kept s.opening (journal ran.did.happened))
+  pub stands : MayHold (pending s.opening (journal ran.did.happened)) (kept s.opening (journal ran.did.happened)) (record_of new_cells)
   pub layout : slice_index new_cells 0 ≡ slice_index s.cells 0
   pub others : SameOthers image old new
 
 -- a run that broke off: the files are as before, and a front of the trace was written
 pub record RunBrokeOff (source : Source) (s : Setup) (old new : FolderSeen) (before now : SinkSeen) : Type 0 where
-  pub log : List Ask
-  pub did : DidSomeLines s.opening s.lines s.cells [] log before now
+  pub copro : CoproSeen
+  pub unasked : copro.log ≡ []
+  pub copro_now : CoproSeen
+  pub device : Device
+  pub cells : List ℕ
+  pub did : DidSomeLines s.opening s.lines (outside resting s.cells copro before) (outside device cells copro_now now)
   pub told : AnswersFrom source (asked (journal did.happened))
   pub tells : now.tells ≡ before.tells
   pub files : SameFiles old new

@@ -9,26 +9,28 @@ use Rattle.eid.proofs.run.run_and_store.Goals as goal
 pub returns-in-Err : goal.returns-in-Err
 returns-in-Err g c = λ source opening has stood.
     let s = setup opening c.args.cells.items (map plain_line c.args.lines.now) in
-    let did = rw (c.new-device.ensures.cells, c.requires.log) at c.in-Err.ensures.broke in
+    let seen = g.C.Coprocessor.seen in
+    let did = rw (c.new-device.ensures.cells, c.new-device.ensures.device) at c.in-Err.ensures.broke in
     let keeps = g.met.C.Coprocessor.keeps_to_told c.run_script.new.copro in
-    let rose = rw c.in-Err.is at c.run_script.ensures.fault in
-    rw c.of_run.ensures (broke_off c.args.image.now source s _ _ _ c.in-Err.error _ _ _ has c.run_script.ensures.told keeps (did opening stood) c.run_script.ensures.tells (λ e. rose (ap Err e)))
+    let rose = rw c.in-Err.is at c.run_script.ensures.sink.fault in
+    rw c.of_run.ensures (broke_off c.args.image.now source s _ (seen c.args.copro.now) (seen c.run_script.new.copro) _ _ _ _ c.in-Err.error has c.requires.log keeps (did opening stood) c.run_script.ensures.sink.tells (λ e. rose (ap Err e)))
 
 pub returns-in-Ok : goal.returns-in-Ok
 returns-in-Ok g c = λ source opening has stood.
     let s = setup opening c.args.cells.items (map plain_line c.args.lines.now) in
-    let did = rw (c.new-device.ensures.cells, c.requires.log) at c.in_default.ensures.did in
+    let seen = g.C.Coprocessor.seen in
+    let did = rw (c.new-device.ensures.cells, c.new-device.ensures.device) at c.in_default.ensures.did in
     let keeps = g.met.C.Coprocessor.keeps_to_told c.run_script.new.copro in
-    let layout = rw c.new-device.ensures.cells at c.run_script.ensures.layout in
     let stored = rw c.cells.ensures at c.in-Ok.ensures.stored in
-    all_done c.args.image.now source s _ _ _ _ _ stood (ran_whole source s _ _ _ _ _ _ has c.run_script.ensures.told keeps (did opening stood) c.run_script.ensures.tells) c.run_script.new.cells.count layout stored c.write.ensures.others
+    all_done c.args.image.now source s _ _ _ _ _ (ran_whole source s (seen c.args.copro.now) (seen c.run_script.new.copro) _ _ _ _ has c.requires.log keeps (did opening stood) c.run_script.ensures.sink.tells) c.run_script.new.cells.count stored c.write.ensures.others
 
 pub returns : goal.returns
 returns g c = λ source opening has stood.
     let s = setup opening c.args.cells.items (map plain_line c.args.lines.now) in
-    let did = rw (c.new-device.ensures.cells, c.requires.log) at c.in_default.ensures.did in
+    let seen = g.C.Coprocessor.seen in
+    let did = rw (c.new-device.ensures.cells, c.new-device.ensures.device) at c.in_default.ensures.did in
     let keeps = g.met.C.Coprocessor.keeps_to_told c.run_script.new.copro in
     let left = rw c.cells.ensures at c.in-Err-write.ensures.left in
     let there = rw c.in-Err-write.is at c.write.ensures.never_absent in
     let rose = rw c.in-Err-write.is at c.write.ensures.cause.fault in
-    rw c.of_write.ensures (not_stored c.args.image.now source s _ _ _ _ _ c.in-Err-write.error (ran_whole source s _ _ _ _ _ _ has c.run_script.ensures.told keeps (did opening stood) c.run_script.ensures.tells) left c.write.ensures.others (λ e. there (ap Err e)) (λ e. rose (ap Err e)))
+    rw c.of_write.ensures (not_stored c.args.image.now source s _ _ _ _ _ c.in-Err-write.error (ran_whole source s (seen c.args.copro.now) (seen c.run_script.new.copro) _ _ _ _ has c.requires.log keeps (did opening stood) c.run_script.ensures.sink.tells) left c.write.ensures.others (λ e. there (ap Err e)) (λ e. rose (ap Err e)))
