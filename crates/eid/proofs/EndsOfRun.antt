@@ -1,6 +1,6 @@
 -- What the run of a script ended in, and what it did: for the commands that read an image and a script,
 -- and then perhaps more.
-use Rattle.std.proofs.Common.{cond, eqb, eqb-true, slice_index, ◌≡◌, ◌≢◌, ℕ, ◌≤◌, Bool, true, false, IsTrue, List, [], length, Option, Some, None, Ok, Err, refl, ap, ◌∙◌, arith, inl, inr}
+use Rattle.std.proofs.Common.{slice_index, ◌≡◌, ◌≢◌, ℕ, ◌≤◌, Bool, true, false, IsTrue, List, [], length, Option, Some, None, Ok, Err, refl, ap, ◌∙◌, arith, inl, inr}
 use Rattle.std.specs.Prelude.{IsSome}
 use Rattle.eid_base.specs.declared.codes.RunError.{RunError}
 use Rattle.eid_base.specs.declared.codes.RunError.TheVariants as run
@@ -9,7 +9,8 @@ use Rattle.eid_base.specs.declared.outside.IoError.TheVariants as io
 use Rattle.eid_base.specs.Faults.{Rose}
 use Rattle.eid_base.specs.Seen.{FolderSeen, SinkSeen, SameFiles, SameOthers, IsLeftBy}
 use Rattle.eid_record.specs.Plain.{FullRecord}
-use Rattle.eid_store.specs.Stands.{stands, two_slot_stands}
+use Rattle.eid_store.specs.Stands.{stands}
+use Rattle.eid_store.proofs.Laws.{first_layout}
 use Rattle.eid_copro.specs.Model.{model_answer}
 use Rattle.eid_copro.specs.Script.{script_answer}
 use Rattle.eid_copro.specs.Told.{Source, Told, Start, Listed, KeepsTo, AnswersFrom}
@@ -96,15 +97,6 @@ pub answers_refused : (image script_name answers_name : List ℕ) (old middle ne
 answers_refused image script_name answers_name old middle new sink opening cells lines e o read third refusal = refused_later (Replay image script_name answers_name) old middle new sink _ e o.same o.later third refusal
     (λ x told is. expected_rest (Replay image script_name answers_name) image script_name old.file _ opening lines (replay_reads image script_name answers_name old.file) (o.stood told) (read told) ∙ ap (λ r. unless_refused r Done) (rw (o.same.files told answers_name) at is))
 
-chosen : (b : Bool) (found : Option FullRecord) (full : FullRecord) → cond b found None ≡ Some full → b ≡ true
-chosen true found full is = refl
-chosen false found full is = absurd cc
-
--- cells that stand for a record are of the layout that is mounted without a write
-layout_of : (cells : List ℕ) (full : FullRecord) → stands cells ≡ Some full → slice_index cells 0 ≡ 1
-unfolding two_slot_stands
-layout_of cells full is = eqb-true (slice_index cells 0) 1 (chosen (eqb (slice_index cells 0) 1) _ full is)
-
 -- the only steady journal
 only_journal : (source : Source) (opening : FullRecord) (moments : List PlainMoment) → AreLegal opening moments → AreSteady moments → AnswersFrom source (asked moments) → IsOnlyJournal source opening moments
 only_journal source opening moments legal steady told = (steady, λ other of_other its_steady same answered. one_journal source opening other moments of_other legal its_steady steady same answered told)
@@ -151,7 +143,7 @@ pub all_done : (image : List ℕ) (source : Source) (s : Setup) (old new : Folde
 all_done image source s old new before now new_cells stood ran long layout stored others = record {
   new_cells = new_cells;
   ran = ran;
-  only = only_journal source s.opening (journal ran.did.happened) ran.did.legal (ran.did.steady (layout_of s.cells s.opening stood)) ran.told;
+  only = only_journal source s.opening (journal ran.did.happened) ran.did.legal (ran.did.steady (first_layout s.cells s.opening stood)) ran.told;
   stored = stored;
   stands = image_of_cells new_cells (kept s.opening (journal ran.did.happened)) long ran.did.cells;
   layout = layout;

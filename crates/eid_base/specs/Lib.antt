@@ -1,3 +1,4 @@
 pub mod Faults
 pub mod Seen
 pub mod Files
+pub mod Transfer

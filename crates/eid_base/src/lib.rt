@@ -7,8 +7,10 @@ mod memory;
 mod outside;
 mod points;
 mod real;
+mod replacing;
 #[cfg(test)]
 mod tests;
+mod transfer;
 
 pub use codes::{Full, NoMemory, Rule, RunError, Status};
 pub use memory::{MemoryFolder, MemorySink};

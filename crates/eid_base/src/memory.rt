@@ -1,5 +1,5 @@
 //! A folder and a sink in memory. They tell everything, and fail in the calls that are listed.
-ghost use Rattle.std.specs.Prelude.{◌≡◌, ◌≢◌, ◌+◌, ◌≤◌, [], ◌∷◌, ◌++◌, take, false, vec_len, ◌==◌, IfOk, OnOk, OnErr, IsErrOf, option_map};
+ghost use Rattle.std.specs.Prelude.{◌≡◌, ◌≢◌, ◌+◌, ◌≤◌, [], ◌∷◌, ◌++◌, take, false, vec_len, ◌==◌, IfOk, OnOk, OnErr, IsErrOf, IsSome, option_map};
 ghost use Rattle.std.specs.List.{list_any};
 ghost use Rattle.eid_base.specs.Faults.{next_number};
 ghost use Rattle.eid_base.specs.Seen.{SameOthers, front_of};
@@ -109,6 +109,7 @@ impl Folder for MemoryFolder {
         ensures found { IfOk result (λ bytes. front_of (folder_seen self.old) name.now limit ≡ Some bytes.items) }
         ensures bounded { IfOk result (λ bytes. vec_len bytes ≤ limit + 1) }
         ensures absent { IsErrOf result IoError.Absent → file_in self.old.files name.now ≡ None }
+        ensures there { IsErrOf result IoError.NoMemory → IsSome (file_in self.old.files name.now) }
         ensures fails { is_fault result ≡ fails_next self.old.fail self.old.calls }
         ensures same { self.new ≡ called (is_fault result) self.old }
         ensures later { self.old.faults ≤ self.new.faults }

@@ -1,5 +1,5 @@
 //! The outside world, a folder of files and a sink of bytes.
-ghost use Rattle.std.specs.Prelude.{◌≡◌, ◌≢◌, ◌+◌, ◌≤◌, IsTrue, IfOk, OnOk, OnErr, IsErrOf, Some, None, vec_len};
+ghost use Rattle.std.specs.Prelude.{◌≡◌, ◌≢◌, ◌+◌, ◌≤◌, IsTrue, IfOk, OnOk, OnErr, IsErrOf, IsSome, Some, None, vec_len};
 ghost use Rattle.eid_base.specs.Faults.{HasCause};
 ghost use Rattle.eid_base.specs.Seen.{FolderSeen, SinkSeen, SameFiles, SameOthers, front_of, IsLeftBy, Grew, GrewByPart};
 
@@ -21,12 +21,16 @@ pub trait Folder {
     /// Whether it tells its content, what each name holds, and its count of faults.
     ghost seen: { Self → FolderSeen };
 
-    /// The first `limit + 1` bytes of a file, or all where there are fewer. Changes no content.
+    /// The first `limit + 1` bytes of a file, or all where there are fewer. Changes no content. A folder that tells its
+    /// content answers `Absent` exactly where it has no such file, but for a fault.
     fn read(&mut self, alloc: Global, name: &str, limit: usize) -> Result<Vec<u8>, IoError>
         requires { limit ≤ 16777216 }
         ensures found { IfOk result (λ bytes. IsTrue (seen self.old).tells → front_of (seen self.old) name.now limit ≡ Some bytes.items) }
         ensures bounded { IfOk result (λ bytes. vec_len bytes ≤ limit + 1) }
-        ensures absent { IsErrOf result IoError.Absent → IsTrue (seen self.old).tells × ((seen self.old).file name.now ≡ None) × ((seen self.new).faults ≡ (seen self.old).faults) }
+        ensures absent { IsErrOf result IoError.Absent → IsTrue (seen self.old).tells
+            × ((seen self.old).file name.now ≡ None) }
+        ensures there { IsErrOf result IoError.NoMemory → IsTrue (seen self.old).tells
+            → IsSome ((seen self.old).file name.now) }
         ensures same { SameFiles (seen self.old) (seen self.new) }
         ensures cause { HasCause (seen self.old).faults (seen self.new).faults result };
 

@@ -1,94 +1,54 @@
 -- The files of the record that a chip's cells stand for.
-use Rattle.std.proofs.Common.{◌≡◌, ℕ, zero, suc, ◌+◌, ◌-◌, ◌≤◌, min, Bool, true, false, cond, eqb, List, [], ◌∷◌, length, take, drop, Option, Some, None, IsTrue, slice_index, slice_range, refl, ap, ◌∙◌, subst, arith}
-use Rattle.std.specs.Prelude.{IfSome, IsSomeAnd, slice_index_or, unwrap_or, nat_le, nat_lt, ◌&&◌, ◌||◌, ◌==◌, not, if◌then◌else◌}
+use Rattle.std.proofs.Common.{◌≡◌, ℕ, zero, suc, ◌+◌, ◌-◌, ◌≤◌, min, List, [], ◌∷◌, length, map, take, drop, Option, Some, None, slice_range, refl, sym, ap, ◌∙◌, subst, arith}
+use Rattle.std.specs.Prelude.{IfSome, IsSomeAnd, slice_index_or, unwrap_or, nat_lt, ◌&&◌, ◌||◌, ◌==◌, not, if◌then◌else◌}
 use Rattle.std.specs.Option.{option_map, option_and_then}
-use Rattle.std.proofs.lemmas.List.{length-drop, length-take, take_min}
-use Rattle.std.proofs.lemmas.Bool.{leb-true, and_parts}
+use Rattle.std.proofs.lemmas.List.{length-drop, take_min}
 use Rattle.eid_cells.specs.Device.{Device}
 use Rattle.eid_record.specs.Plain.{PlainRecord, FullRecord}
-use Rattle.eid_record.specs.Valid.{lengths_fit}
-use Rattle.eid_record.specs.Files.{total, full_in, files_in, file_range}
-use Rattle.eid_store.specs.declared.slot.Slot.{Slot}
+use Rattle.eid_record.specs.Files.{file_range}
 use Rattle.eid_store.specs.declared.store.Store.{Store}
-use Rattle.eid_store.specs.declared.store.Store.TheVariants.{Slots}
-use Rattle.eid_store.specs.Slots.{room_of, current}
-use Rattle.eid_store.specs.Stands.{record_in_slot, two_slot_stands, stands}
+use Rattle.eid_store.specs.Stands.{stands}
 use Rattle.eid_store.specs.Store.{Fits, fields_of}
-use Rattle.eid_store.proofs.Rooms.{length-room}
-use Rattle.eid_store.proofs.Committed.{full_parts, valid_fields, total-fits}
+use Rattle.eid_store.proofs.Laws.{complete, stood_for}
 use Rattle.eid_apdu.specs.Answer.{PlainReply}
 use Rattle.eid_model.specs.Answers.{read_reply}
 use Rattle.eid_chip.specs.Held.{held, held_file}
 
--- each file has its length
-sized : (lengths : List (Option ℕ)) (bytes : List ℕ) (file : ℕ) → total lengths ≤ length bytes → option_map (λ (b : List ℕ). length b) (slice_index_or (files_in lengths bytes) file None) ≡ slice_index_or lengths file None
-sized [] bytes file long = refl
-sized (None ∷ lengths) bytes zero long = refl
-sized (None ∷ lengths) bytes (suc file) long = sized lengths bytes file (omega (arith, long))
-sized (Some n ∷ lengths) bytes zero long = ap Some (omega (arith, length-take n bytes, long))
-sized (Some n ∷ lengths) bytes (suc file) long = sized lengths (drop n bytes) file (omega (arith, length-drop n bytes, long))
-
--- each length is at most 2,048
-small : (sum : ℕ) (lengths : List (Option ℕ)) (file : ℕ) → IsTrue (lengths_fit sum lengths) → IfSome (slice_index_or lengths file None) (λ n. n ≤ 2048)
-small sum [] file fits = tt
-small sum (None ∷ lengths) zero fits = tt
-small sum (None ∷ lengths) (suc file) fits = small sum lengths file fits
-small sum (Some n ∷ lengths) zero fits =
-    let both = and_parts (nat_le n 2048 && nat_le (sum + n) 24000) (lengths_fit (sum + n) lengths) fits in
-    let each = and_parts (nat_le n 2048) (nat_le (sum + n) 24000) both.0 in
-    leb-true n 2048 each.0
-small sum (Some n ∷ lengths) (suc file) fits =
-    let both = and_parts (nat_le n 2048 && nat_le (sum + n) 24000) (lengths_fit (sum + n) lengths) fits in
-    small (sum + n) lengths file both.1
-
--- the slot whose record the cells stand for
-in_slot : (slot : Option Slot) (cells : List ℕ) (full : FullRecord) → record_in_slot slot cells ≡ Some full → (s : Slot) × (full_in (room_of s cells) ≡ Some full)
-in_slot None cells full e = absurd cc
-in_slot (Some s) cells full e = (s, e)
-
-guarded : (b : Bool) (o : Option FullRecord) (full : FullRecord) → cond b o None ≡ Some full → o ≡ Some full
-guarded true o full e = e
-guarded false o full e = absurd cc
-
-stood : (cells : List ℕ) (full : FullRecord) → stands cells ≡ Some full → (s : Slot) × (full_in (room_of s cells) ≡ Some full)
-unfolding two_slot_stands
-stood cells full e = in_slot (current cells) cells full (guarded (eqb (slice_index cells 0) 1) (record_in_slot (current cells) cells) full e)
-
-found_in : (o : Option FullRecord) (P : FullRecord → Type 0) → IsSomeAnd o P → (full : FullRecord) × (o ≡ Some full) × P full
-found_in None P h = absurd h
-found_in (Some full) P h = (full, refl, h)
-
--- the cells that a store fits stand for a record of its fields
-pub fits_stands : (store : Store) (device : Device) (cells : List ℕ) → Fits store device cells → (full : FullRecord) × (stands cells ≡ Some full) × (full.fields ≡ fields_of store)
-fits_stands (Slots slots) device cells fits = found_in (stands cells) _ fits.stands
+-- the length of the file of this number is the length of that number
+length_at : (files : List (Option (List ℕ))) (file : ℕ) → option_map (λ (b : List ℕ). length b) (slice_index_or files file None) ≡ slice_index_or (map (option_map (λ (b : List ℕ). length b)) files) file None
+length_at [] file = refl
+length_at (first ∷ later) zero = refl
+length_at (first ∷ later) (suc file) = length_at later file
 
 -- what is held, where the cells stand for it
 pub held_is : (cells : List ℕ) (full : FullRecord) → stands cells ≡ Some full → held cells ≡ full
 held_is cells full e = rw e refl
 
+-- the cells that a store fits stand for the record held
+pub held_stands : (store : Store) (device : Device) (cells : List ℕ) → Fits store device cells → stands cells ≡ Some (held cells)
+held_stands store device cells fits =
+    let found = stood_for store device cells fits in
+    found.1 ∙ ap Some (sym (held_is cells found.0 found.1))
+
 -- the record held has the store's fields
 pub held_fields : (store : Store) (device : Device) (cells : List ℕ) → Fits store device cells → (held cells).fields ≡ fields_of store
 held_fields store device cells fits =
-    let found = fits_stands store device cells fits in
+    let found = stood_for store device cells fits in
     ap (λ (f : FullRecord). f.fields) (held_is cells found.0 found.1) ∙ found.2
 
 -- a file has the length that the store keeps for it, at most 2,048
 pub held_length : (store : Store) (device : Device) (cells : List ℕ) (file : ℕ) → length cells ≡ 65536 → Fits store device cells → (option_map (λ (b : List ℕ). length b) (held_file cells file) ≡ slice_index_or (fields_of store).lengths file None) × IfSome (slice_index_or (fields_of store).lengths file None) (λ n. n ≤ 2048)
 held_length store device cells file long fits =
-    let found = fits_stands store device cells fits in
+    let found = stood_for store device cells fits in
     let full = found.0 in
-    let slot = stood cells full found.1 in
-    let parts = full_parts (room_of slot.0 cells) full slot.1 in
-    let valid = valid_fields slot.0 cells full long slot.1 in
-    let room : total full.fields.lengths ≤ length (drop 448 (room_of slot.0 cells)) =
-    omega (arith, total-fits 0 full.fields.lengths (omega arith) valid.lengths, length-drop 448 (room_of slot.0 cells), length-room slot.0 cells long) in
+    let whole = complete cells full long found.1 in
     let same : option_map (λ (b : List ℕ). length b) (slice_index_or full.files file None) ≡ slice_index_or full.fields.lengths file None =
-    rw parts.1 (sized full.fields.lengths (drop 448 (room_of slot.0 cells)) file room) in
+    length_at full.files file ∙ ap (λ (lengths : List (Option ℕ)). slice_index_or lengths file None) whole.files in
     let held_same : option_map (λ (b : List ℕ). length b) (held_file cells file) ≡ slice_index_or full.fields.lengths file None =
     ap (λ (f : FullRecord). option_map (λ (b : List ℕ). length b) (slice_index_or f.files file None)) (held_is cells full found.1) ∙ same in
     let fields : full.fields ≡ fields_of store = found.2 in (
       held_same ∙ ap (λ (r : PlainRecord). slice_index_or r.lengths file None) fields,
-      subst (λ (r : PlainRecord). IfSome (slice_index_or r.lengths file None) (λ n. n ≤ 2048)) fields (small 0 full.fields.lengths file valid.lengths),
+      subst (λ (r : PlainRecord). IfSome (slice_index_or r.lengths file None) (λ n. n ≤ 2048)) fields (whole.small file),
     )
 
 -- bytes of a file, as the store reads them

@@ -7,3 +7,5 @@ pub mod SlotStands
 pub mod Turning
 pub mod Committed
 pub mod Fitting
+pub mod TwoSlotLaws
+pub mod Laws

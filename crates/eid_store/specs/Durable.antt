@@ -18,10 +18,12 @@ abbrev pub IsAllOrNothing : PlainEffect → Option FullRecord → Option FullRec
 IsAllOrNothing effect old new = (new ≡ old) ⊎ (new ≡ option_map (committed effect) old)
 
 -- What mounting does to the device, where it takes so many writes: a bad image is found before any write; a cut comes
--- only where the count rose, and from a device that tells its plan exactly where the plan names one of these writes.
+-- only where there is a write and the count rose, and from a device that tells its plan exactly where the plan names
+-- one of these writes, so never where it tells that none is planned.
 pub record Mounts {S : Type 0} (writes : ℕ) (old new : Device) (result : Result S MountError) : Type 0 where
   pub mounted : OnOk result (new ≡ written_times writes old)
   pub bad_image : result ≡ Err BadImage → new ≡ old
   pub cut : result ≡ Err Cut → WasCut old new
+  pub written : result ≡ Err Cut → 1 ≤ writes
   pub struck : IsTrue old.told → result ≡ Err Cut → (1 ≤ old.planned) × (old.planned ≤ writes)
   pub spared : IsTrue old.told → OnOk result ((1 ≤ old.planned) × (old.planned ≤ writes) → ⊥)

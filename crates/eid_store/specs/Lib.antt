@@ -1,5 +1,6 @@
 pub mod Slots
 pub mod Stands
+pub mod Complete
 pub mod Cost
 pub mod Pages
 pub mod NewRecord

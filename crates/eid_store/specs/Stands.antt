@@ -16,5 +16,5 @@ unfoldable pub two_slot_stands : List ℕ → Option FullRecord
 two_slot_stands cells = if slice_index cells 0 == LAYOUT then record_in_slot (current cells) cells else None
 
 -- cell 0 chooses the layout, of which there is one
-abbrev pub stands : List ℕ → Option FullRecord
+unfoldable pub stands : List ℕ → Option FullRecord
 stands cells = two_slot_stands cells

@@ -7,18 +7,18 @@ use Rattle.eid_store.specs.declared.store.Store.TheVariants.{Slots}
 use Rattle.eid_store.specs.Fits.{two_slot_fields, TwoSlotFits, commit_writes}
 
 -- the fields that the store keeps
-abbrev pub fields_of : Store → PlainRecord
+unfoldable pub fields_of : Store → PlainRecord
 fields_of (Slots slots) = two_slot_fields slots
 
 -- there is power, the cells stand for a full record of the store's fields, and the place that the store keeps is the one
 -- that their layout reads
-abbrev pub Fits : Store → Device → List ℕ → Type 0
+unfoldable pub Fits : Store → Device → List ℕ → Type 0
 Fits (Slots slots) device cells = TwoSlotFits slots device cells
 
 -- the writes of mounting these cells: layout 1 needs none
-abbrev pub mount_cost : List ℕ → ℕ
+unfoldable pub mount_cost : List ℕ → ℕ
 mount_cost cells = 0
 
 -- the writes of a commit of the effect to these cells
-abbrev pub commit_cost : Store → List ℕ → PlainEffect → ℕ
+unfoldable pub commit_cost : Store → List ℕ → PlainEffect → ℕ
 commit_cost (Slots slots) cells effect = commit_writes slots cells effect

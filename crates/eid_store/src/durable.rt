@@ -1,4 +1,4 @@
-ghost use Rattle.std.specs.Prelude.{◌≡◌, ℕ, ◌+◌, ◌<◌, ◌↔◌, List, Option, Some, None, IsTrue, IfOk, OnOk, OnErr, length, slice_index};
+ghost use Rattle.std.specs.Prelude.{◌≡◌, ℕ, ◌+◌, ◌<◌, ◌≤◌, ◌↔◌, List, Option, Some, None, IsTrue, IsSomeAnd, IfOk, OnOk, OnErr, length, slice_index};
 ghost use Rattle.std.specs.Option.{option_map, option_and_then};
 ghost use Rattle.eid_cells.specs.Device.{Device};
 ghost use Rattle.eid_record.specs.Plain.{PlainRecord, PlainEffect, FullRecord};
@@ -22,6 +22,7 @@ pub enum MountError {
 
 /// A way to keep the chip's record in cells so that no power cut leaves a commit half done.
 pub trait Durable: Sized {
+    ghost use Rattle.eid_store.specs.Complete.{IsComplete};
     ghost use Rattle.eid_store.specs.Cost.{Costs};
     ghost use Rattle.eid_store.specs.Durable.{IsAllOrNothing, Mounts, is_spend};
     ghost use Rattle.eid_store.specs.Receipt.{receipt_number, receipt_spends};
@@ -82,4 +83,24 @@ pub trait Durable: Sized {
         ensures layout { slice_index (E.cells cells.new) 0 ≡ slice_index (E.cells cells.old) 0 }
         ensures cost { Costs (commit_cost self.old (E.cells cells.old) (effect_view effect.now))
             (E.device cells.old) (E.device cells.new) result };
+
+    /// Cells that stand for a record stand for a complete one.
+    fn law_complete()
+        ensures { (cells : List ℕ) (full : FullRecord) → length cells ≡ 65536
+            → stands cells ≡ Some full → IsComplete full };
+
+    /// A store that fits has power, and cells that stand for a record of its fields. It fits the same cells on every
+    /// device with power, whatever cut is planned there.
+    fn law_fits()
+        ensures stands { (store : Self) (device : Device) (cells : List ℕ) → fits store device cells
+            → IsTrue device.has_power × IsSomeAnd (stands cells) (λ full. full.fields ≡ fields store) }
+        ensures device { (store : Self) (old new : Device) (cells : List ℕ) → fits store old cells
+            → IsTrue new.has_power → fits store new cells };
+
+    /// Mounting takes at most 40 writes; a commit to cells that a store fits at least 5, and at most 384.
+    fn law_costs()
+        ensures mount { (cells : List ℕ) → mount_cost cells ≤ 40 }
+        ensures commit { (store : Self) (device : Device) (cells : List ℕ) (effect : PlainEffect)
+            → length cells ≡ 65536 → fits store device cells
+            → (5 ≤ commit_cost store cells effect) × (commit_cost store cells effect ≤ 384) };
 }

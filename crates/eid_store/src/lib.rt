@@ -5,6 +5,7 @@ mod device;
 mod durable;
 mod files;
 mod gates;
+mod law;
 mod next;
 mod pages;
 mod receipt;
@@ -14,6 +15,7 @@ mod turn;
 mod two_slot;
 
 pub use durable::{Durable, MountError};
+pub use law::{law_complete, law_costs, law_fits};
 pub use receipt::Receipt;
 pub use store::Store;
 pub use two_slot::TwoSlot;

