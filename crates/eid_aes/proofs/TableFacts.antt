@@ -1,6 +1,6 @@
 -- The tables have the definition's value at each byte, and the products that the columns need are sums of
 -- products with x.
-use Rattle.std.proofs.Common.{◌≡◌, ℕ, zero, suc, ◌+◌, ◌<◌, List, [], ◌∷◌, map, refl, sym, ap, ◌∙◌, get_or, bit_xor, arith}
+use Rattle.std.proofs.Common.{◌≡◌, ℕ, zero, suc, ◌+◌, ◌<◌, List, [], ◌∷◌, map, refl, sym, ap, ◌∙◌, get_or, arith}
 use Rattle.eid_aes.specs.Field.{xtimes, product_of_bits, product, inverse_below, inverse, affine, affine_undone, sub, inv_sub}
 use Rattle.eid_aes.specs.declared.tables.TheConstants.{SUBSTITUTION, INVERSE_SUBSTITUTION}
 
@@ -35,21 +35,3 @@ SUBSTITUTION_at a h = of_table sub SUBSTITUTION 256 a sub_table h
 
 pub INVERSE_SUBSTITUTION_at : (a : ℕ) → a < 256 → get_or INVERSE_SUBSTITUTION a 0 ≡ inv_sub a
 INVERSE_SUBSTITUTION_at a h = of_table inv_sub INVERSE_SUBSTITUTION 256 a inv_sub_table h
-
--- ---- products
-
-pub product_9 : (a : ℕ) → a < 256 → product 9 a ≡ bit_xor (xtimes (xtimes (xtimes a))) a
-unfolding xtimes product_of_bits product
-product_9 a h = agree (product 9) (λ b. bit_xor (xtimes (xtimes (xtimes b))) b) 256 a refl h
-
-pub product_11 : (a : ℕ) → a < 256 → product 11 a ≡ bit_xor (bit_xor (xtimes (xtimes (xtimes a))) (xtimes a)) a
-unfolding xtimes product_of_bits product
-product_11 a h = agree (product 11) (λ b. bit_xor (bit_xor (xtimes (xtimes (xtimes b))) (xtimes b)) b) 256 a refl h
-
-pub product_13 : (a : ℕ) → a < 256 → product 13 a ≡ bit_xor (bit_xor (xtimes (xtimes (xtimes a))) (xtimes (xtimes a))) a
-unfolding xtimes product_of_bits product
-product_13 a h = agree (product 13) (λ b. bit_xor (bit_xor (xtimes (xtimes (xtimes b))) (xtimes (xtimes b))) b) 256 a refl h
-
-pub product_14 : (a : ℕ) → a < 256 → product 14 a ≡ bit_xor (bit_xor (xtimes (xtimes (xtimes a))) (xtimes (xtimes a))) (xtimes a)
-unfolding xtimes product_of_bits product
-product_14 a h = agree (product 14) (λ b. bit_xor (bit_xor (xtimes (xtimes (xtimes b))) (xtimes (xtimes b))) (xtimes b)) 256 a refl h
