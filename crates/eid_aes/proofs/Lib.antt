@@ -6,3 +6,4 @@ pub mod FieldFacts
 pub mod Undone
 pub mod Chaining
 pub mod ColumnFacts
+pub mod InverseFacts

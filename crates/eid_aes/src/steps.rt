@@ -1,22 +1,16 @@
 //! The steps of the inverse cipher's rounds (FIPS 197, 5.3). A block's byte of row r and column c stands at r + 4 * c.
 
 ghost use Rattle.std.specs.Prelude.{◌≡◌, ℕ, ◌+◌, ◌*◌, ◌<◌, ◌≤◌, List, [], ◌∷◌, length};
-ghost use Rattle.eid_aes.specs.Field.{times_x, product, sub, inv_sub};
+ghost use Rattle.eid_aes.specs.Field.{product, sub, inv_sub};
 ghost use Rattle.eid_aes.specs.Cipher.{sum_of_four, inv_sub_bytes, inv_shift_rows, inv_mix_columns, xor_block, add_round_key};
 
-use crate::tables::{INVERSE_SUBSTITUTION, SUBSTITUTION};
+use crate::tables::{
+    INVERSE_MIXED_0, INVERSE_MIXED_1, INVERSE_MIXED_2, INVERSE_MIXED_3, INVERSE_SUBSTITUTION,
+    SUBSTITUTION,
+};
 
 /// A block, and each state of it between two steps.
 pub type Block = [u8; 16];
-
-/// The product with x in the field.
-#[tactic(auto, unfolding(crate::specs::Field::times_x))]
-pub fn times_x(byte: u8) -> u8
-    ensures { result ≡ times_x byte }
-{
-    let doubled = byte.wrapping_mul(2);
-    if byte < 0x80 { doubled } else { doubled ^ 0x1b }
-}
 
 /// The substitution of a byte.
 #[inline]
@@ -54,21 +48,6 @@ pub fn inv_shift_rows(s: &mut Block)
     ];
 }
 
-// A byte's products with 0e, 0b, 0d and 09.
-fn inv_products(byte: u8) -> [u8; 4]
-    ensures { result ≡ product 0x0e byte ∷ product 0x0b byte ∷ product 0x0d byte ∷ product 0x09 byte ∷ [] }
-{
-    let twice = times_x(byte);
-    let four_times = times_x(twice);
-    let eight_times = times_x(four_times);
-    [
-        eight_times ^ four_times ^ twice,
-        eight_times ^ twice ^ byte,
-        eight_times ^ four_times ^ byte,
-        eight_times ^ byte,
-    ]
-}
-
 // A column multiplied by the inverse matrix.
 fn inv_mix_column(a: u8, b: u8, c: u8, d: u8) -> [u8; 4]
     ensures { result ≡ sum_of_four (product 14 a) (product 11 b) (product 13 c) (product 9 d)
@@ -76,16 +55,11 @@ fn inv_mix_column(a: u8, b: u8, c: u8, d: u8) -> [u8; 4]
         ∷ sum_of_four (product 13 a) (product 9 b) (product 14 c) (product 11 d)
         ∷ sum_of_four (product 11 a) (product 13 b) (product 9 c) (product 14 d) ∷ [] }
 {
-    let [a14, a11, a13, a9] = inv_products(a);
-    let [b14, b11, b13, b9] = inv_products(b);
-    let [c14, c11, c13, c9] = inv_products(c);
-    let [d14, d11, d13, d9] = inv_products(d);
-    [
-        a14 ^ b11 ^ c13 ^ d9,
-        a9 ^ b14 ^ c11 ^ d13,
-        a13 ^ b9 ^ c14 ^ d11,
-        a11 ^ b13 ^ c9 ^ d14,
-    ]
+    let column = INVERSE_MIXED_0[a as usize]
+        ^ INVERSE_MIXED_1[b as usize]
+        ^ INVERSE_MIXED_2[c as usize]
+        ^ INVERSE_MIXED_3[d as usize];
+    column.to_le_bytes()
 }
 
 /// Multiplies each column by the inverse matrix.
@@ -112,7 +86,7 @@ pub fn add_block(s: &mut Block, other: &[u8])
     }
 }
 
-/// Adds round key `round` of an expanded key.
+/// ADDROUNDKEY with round key `round` of an expanded key (FIPS 197, 5.1.4).
 pub fn add_round_key(s: &mut Block, schedule: &[u8; 240], round: usize)
     requires { round < 15 }
     ensures { s.new ≡ add_round_key schedule.now round s.old }
