@@ -1,4 +1,5 @@
 pub mod Sources
 pub mod Cuts
 pub mod TextLines
+pub mod Spelled
 pub mod Asking

@@ -10,4 +10,5 @@ pub mod ModelSeen
 pub mod ScriptSeen
 pub mod AnySeen
 pub mod Lines
+pub mod Grammar
 pub mod Refusal

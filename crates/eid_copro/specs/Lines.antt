@@ -1,12 +1,13 @@
 -- Answers as lines of text (this project's own): `nonce HEX` (16 bytes), `challenge HEX` (8),
 -- `pair SECRET PUBLIC` (32 and 65), `map POINT` (65) or `map none`, `agree HEX` (32) or `agree none`,
 -- `verify yes`, `verify no`, `sign HEX` (64), `fault`.
-use Rattle.std.specs.Prelude.{ℕ, ◌+◌, ◌==◌, Bool, true, false, List, [], ◌∷◌, length, if◌then◌else◌, nat_lt, codes}
-use Rattle.std.specs.Prelude.{Option, Some, None, option_map, option_and_then, Result, Ok, Err}
-use Rattle.std.specs.List.{before_first, after_first, slice_split}
+use Rattle.std.specs.Prelude.{ℕ, ◌==◌, Bool, true, false, List, [], ◌∷◌, if◌then◌else◌, codes}
+use Rattle.std.specs.Prelude.{Option, Some, None, option_map, option_and_then, Result}
+use Rattle.std.specs.List.{before_first, after_first}
 use Rattle.std.specs.Result.{result_ok}
 use Rattle.std.specs.Str.{bytes_eq}
 use Rattle.hex.specs.Hex.{decode_sized}
+use Rattle.eid_text.specs.Lines.{said_in}
 use Rattle.eid_copro.specs.declared.ask.Answer.{Answer}
 use Rattle.eid_copro.specs.declared.ask.Answer.TheVariants as answers
 
@@ -16,9 +17,6 @@ bytes_of size text = result_ok (decode_sized text size)
 
 abbrev pub is_space : ℕ → Bool
 is_space byte = byte == 32
-
-abbrev pub is_line_end : ℕ → Bool
-is_line_end byte = byte == 10
 
 -- the secret, and the public point behind the next space
 unfoldable pub pair_in : List ℕ → Option Answer
@@ -55,23 +53,14 @@ line_answer line =
     if bytes_eq line (codes "fault") then Some answers.Fault
     else answer_in (before_first is_space line) (after_first is_space line)
 
--- one more answer in front
-abbrev pub with_answer : Answer → Result (List Answer) ℕ → Result (List Answer) ℕ
-with_answer answer (Ok later) = Ok (answer ∷ later)
-with_answer answer (Err number) = Err number
+abbrev pub is_empty : List ℕ → Bool
+is_empty [] = true
+is_empty (c ∷ cs) = false
 
--- what a line with that number says, and then the later lines; empty lines are skipped
-abbrev pub with_line : ℕ → Option Answer → Result (List Answer) ℕ → Result (List Answer) ℕ
-with_line number (Some answer) later = with_answer answer later
-with_line number None later = Err number
+-- what one line says: nothing where it is empty, one answer, or it is no line of answers
+abbrev pub says : List ℕ → Option (List Answer)
+says line = if is_empty line then Some [] else option_map (λ answer. answer ∷ []) (line_answer line)
 
--- the answers in lines numbered from there on, or the number of the first that says none
-unfoldable pub answers_in : ℕ → List (List ℕ) → Result (List Answer) ℕ
-answers_in number [] = Ok []
-answers_in number (line ∷ later) =
-    if length line == 0 then answers_in (number + 1) later
-    else with_line number (line_answer line) (answers_in (number + 1) later)
-
--- the answers in a text, which has at most 1,048,576 bytes
+-- the answers in a text, or the first line that is none, 0 where the text is too long
 unfoldable pub answers_of : List ℕ → Result (List Answer) ℕ
-answers_of text = if nat_lt 1048576 (length text) then Err 0 else answers_in 1 (slice_split is_line_end text)
+answers_of text = said_in says text

@@ -1,7 +1,7 @@
 use eid_base::{Point, Secret, Signature};
 
 /// What a coprocessor can be asked.
-#[derive(Clone, Copy, Debug, PartialEq, Eq)]
+#[derive(Clone, Copy)]
 pub enum Question {
     /// A random nonce.
     Nonce,
@@ -37,7 +37,7 @@ pub enum Question {
 }
 
 /// What a coprocessor can answer.
-#[derive(Clone, Copy, Debug, PartialEq, Eq)]
+#[derive(Clone, Copy)]
 pub enum Answer {
     Nonce([u8; 16]),
     Challenge([u8; 8]),
@@ -55,7 +55,7 @@ pub enum Answer {
 }
 
 /// A question and the answer that was given.
-#[derive(Clone, Copy, Debug, PartialEq, Eq)]
+#[derive(Clone, Copy)]
 pub struct Ask {
     pub question: Question,
     pub answer: Answer,

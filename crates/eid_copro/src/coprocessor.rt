@@ -8,7 +8,7 @@ use crate::ask::{Ask, Question};
 use eid_base::{NoMemory, Point, Secret, Signature};
 
 /// The coprocessor failed, and its count of faults rose.
-#[derive(Clone, Copy, Debug, PartialEq, Eq, Hash)]
+#[derive(Clone, Copy, Debug)]
 pub struct CoproFault;
 
 /// What answers questions and keeps a log of them. A question takes no memory: its place in the log

@@ -7,6 +7,7 @@ mod any;
 mod ask;
 mod ask_log;
 mod coprocessor;
+mod law;
 mod lines;
 mod model;
 mod numbers;
@@ -16,9 +17,7 @@ mod script;
 pub use any::AnyCopro;
 pub use ask::{Answer, Ask, Question};
 pub use coprocessor::{CoproFault, Coprocessor};
+pub use law::law_answers_grammar;
 pub use lines::{AnswersError, read_answers};
 pub use model::ModelCoprocessor;
 pub use script::ScriptCoprocessor;
-
-#[cfg(test)]
-mod tests;

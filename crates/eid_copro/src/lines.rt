@@ -1,15 +1,18 @@
 //! Answers as lines of text.
-ghost use Rattle.std.specs.Prelude.{◌≡◌, ◌≤◌, length, Ok, IfOk, IfErr, option_map};
-ghost use Rattle.std.specs.List.{after_first, before_first, position, slice_split};
+ghost use Rattle.std.specs.Prelude.{◌≡◌, ◌≤◌, ◌++◌, length, Ok, IfOk, IfErr, OnOk, option_map};
+ghost use Rattle.std.specs.List.{after_first, before_first, position};
+ghost use Rattle.std.specs.Option.{option_to_list};
+ghost use Rattle.eid_text.specs.Lines.{text_limit, text_says};
 ghost use Rattle.eid_copro.specs.Refusal.{Refuses};
-ghost use Rattle.eid_copro.specs.Lines.{answer_in, answers_in, answers_of, bytes_of, is_line_end, is_space, line_answer, or_none, pair_in, verdict_in};
+ghost use Rattle.eid_copro.specs.Lines.{answer_in, answers_of, bytes_of, is_space, line_answer, or_none, pair_in, says, verdict_in};
 
 use crate::ask::Answer;
+use eid_base::NoMemory;
 use hex::FromHex;
 use std::alloc::Global;
 
 /// Why a text is no list of answers.
-#[derive(Clone, Copy, Debug, PartialEq, Eq, Hash)]
+#[derive(Clone, Copy, Debug)]
 pub enum AnswersError {
     /// The number of the first line that is none; 0 where the text is over 1,048,576 bytes.
     Bad { line: u32 },
@@ -130,7 +133,37 @@ fn first_space(line: &[u8]) -> Option<usize>
     line.iter().position(|byte| *byte == b' ')
 }
 
-/// The answers in a text, one in a line. Empty lines are skipped.
+// What one line says: nothing where it is empty.
+fn read_any_line(line: &[u8]) -> Option<Option<Answer>>
+    ensures { option_map (λ said. option_to_list said) result ≡ says line.now }
+{
+    if line.is_empty() {
+        return Some(None);
+    }
+    match read_line(line) {
+        Some(answer) => Some(Some(answer)),
+        None => None,
+    }
+}
+
+// Appends what a line said.
+fn keep(answers: &mut Vec<Answer>, said: Option<Answer>) -> Result<(), NoMemory>
+    ensures { OnOk result (answers.new.items ≡ answers.old.items ++ option_to_list said) }
+{
+    if let Some(answer) = said {
+        answers.push(answer)?;
+    }
+    Ok(())
+}
+
+/// Reads answers: lines ended by LF, the last one with or without it. Empty lines are skipped; the others are `nonce HEX`
+/// (16 bytes), `challenge HEX` (8), `pair SECRET PUBLIC` (32 and 65), `map POINT` (65) or `map none`, `agree HEX` (32) or
+/// `agree none`, `verify yes`, `verify no`, `sign HEX` (64) and `fault`, with HEX in hexadecimal of either case. One
+/// space parts the words, and nothing else stands in a line.
+///
+/// # Errors
+/// `Bad` with the first line that is none of these, where lines are counted from 1 and the empty ones count; with line 0
+/// exactly where the text is over 1,048,576 bytes. `NoMemory` only where memory was refused.
 #[tactic(auto, using(crate::proofs::TextLines::too_long, crate::proofs::TextLines::short_enough))]
 pub fn read_answers(alloc: Global, text: &[u8]) -> Result<Vec<Answer>, AnswersError>
     ensures read { IfOk result (λ answers. answers_of text.now ≡ Ok answers.items) }
@@ -143,23 +176,20 @@ pub fn read_answers(alloc: Global, text: &[u8]) -> Result<Vec<Answer>, AnswersEr
 }
 
 fn read_lines(alloc: Global, text: &[u8]) -> Result<Vec<Answer>, AnswersError>
-    requires { length text.now ≤ 1048576 }
-    ensures read { IfOk result (λ answers. answers_in 1 (slice_split is_line_end text.now) ≡ Ok answers.items) }
-    ensures refused { IfErr result (Refuses (answers_in 1 (slice_split is_line_end text.now))) }
+    requires { length text.now ≤ text_limit }
+    ensures read { IfOk result (λ answers. text_says says text.now ≡ Ok answers.items) }
+    ensures refused { IfErr result (Refuses (text_says says text.now)) }
 {
     let mut answers = Vec::new(alloc);
     let mut number = 0;
     for line in text.split(|byte| *byte == b'\n') {
         number += 1;
-        if line.is_empty() {
-            continue;
-        }
-        let Some(answer) = read_line(line) else {
+        let Some(said) = read_any_line(line) else {
             return Err(AnswersError::Bad { line: number });
         };
-        if answers.push(answer).is_err() {
+        let Ok(()) = keep(&mut answers, said) else {
             return Err(AnswersError::NoMemory);
-        }
+        };
     }
     Ok(answers)
 }

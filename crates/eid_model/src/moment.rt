@@ -43,7 +43,7 @@ pub struct Plain {
 }
 
 /// One moment of a journal.
-#[derive(Debug, Drop)]
+#[derive(Drop)]
 pub struct Moment {
     /// What came.
     pub input: Input,
@@ -76,7 +76,7 @@ pub enum InputRef<'a> {
 }
 
 /// One moment of a journal, over bytes that stand elsewhere: what a run writes, without a copy.
-#[derive(Clone, Copy, Debug)]
+#[derive(Clone, Copy)]
 pub struct MomentRef<'a> {
     /// What came.
     pub input: InputRef<'a>,

@@ -6,7 +6,7 @@ ghost use Rattle.eid_pace.specs.Keys.{enc_key, encrypted_nonce, identity_of, mac
 use eid_aes::Aes;
 use eid_base::Point;
 use eid_bits::Known;
-use eid_cmac::{cmac, derive};
+use eid_cmac::{derive, mac8};
 
 /// The number of the key of encryption.
 const ENCRYPTION: u32 = 1;
@@ -62,10 +62,7 @@ pub fn token<const ROUNDS: usize>(key: &Aes<ROUNDS>, protocol: Known, point: &Po
     tail[0] = POINT;
     tail[1] = POINT_SIZE;
     tail[2..].copy_from_slice(point);
-    let mac = cmac(key, &head, identifier, &tail);
-    let mut front = [0; 8];
-    front.copy_from_slice(&mac[..8]);
-    front
+    mac8(key, &head, identifier, &tail)
 }
 
 /// The chip's identity in terminal authentication: the X half of its ephemeral point.

@@ -19,6 +19,3 @@ pub use mapped::Mapped;
 pub use nonce_sent::NonceSent;
 pub use protocol::Protocol;
 pub use selection::law_selection;
-
-#[cfg(test)]
-mod tests;

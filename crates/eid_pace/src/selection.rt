@@ -9,7 +9,7 @@ ghost use Rattle.eid_pace.specs.View.{selection_view};
 
 use crate::protocol::Protocol;
 use eid_bits::Template;
-use eid_tlv::{Found, find};
+use eid_tlv::{Found, find, only_value};
 
 const PROTOCOL: u16 = 0x80;
 
@@ -44,17 +44,6 @@ pub fn read_selection(body: &[u8]) -> Option<Selection>
         reference,
         template,
     })
-}
-
-/// The value that stands with the tag, where the body is a list of data objects and one of them has it.
-fn only_value(body: &[u8], tag: u16) -> Option<&[u8]>
-    ensures found { IfSome result (λ value. HasValues tag (value.now ∷ []) body.now) }
-    ensures only { (value : List ℕ) → HasValues tag (value ∷ []) body.now → IsSomeAnd result (λ found. found.now ≡ value) }
-{
-    match find(body, tag) {
-        Found::Once(value) => Some(value),
-        _ => None,
-    }
 }
 
 /// The protocol of the one 80.

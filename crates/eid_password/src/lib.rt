@@ -4,6 +4,3 @@
 mod passwords;
 
 pub use passwords::digits;
-
-#[cfg(test)]
-mod tests;

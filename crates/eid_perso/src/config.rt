@@ -2,7 +2,7 @@
 use eid_record::Record;
 
 /// A configuration: what a new image holds.
-#[derive(Debug, Drop)]
+#[derive(Drop)]
 pub struct Config {
     /// The layout of the image, which is 1.
     pub layout: u8,
@@ -12,7 +12,7 @@ pub struct Config {
 }
 
 /// Why a text gives no configuration.
-#[derive(Clone, Copy, Debug, PartialEq, Eq, Hash)]
+#[derive(Clone, Copy, Debug)]
 pub enum ConfigError {
     /// The first key, in the order of the keys' numbers, that is absent though required, or refused; 0 where the
     /// text is no TOML or has over 1,048,576 bytes.

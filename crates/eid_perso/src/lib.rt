@@ -14,6 +14,3 @@ pub use config::{Config, ConfigError};
 pub use image::image_of;
 pub use reading::read_config;
 pub use show::show_text;
-
-#[cfg(test)]
-mod tests;

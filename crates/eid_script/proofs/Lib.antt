@@ -1,4 +1,3 @@
-pub mod Hexadecimal
-pub mod Lines
 pub mod Spelled
-pub mod WholeTexts
+pub mod Commands
+pub mod Numbers

@@ -1,25 +1,27 @@
 -- What lines say is what spells them.
-use Rattle.std.proofs.Common.{◌≡◌, ℕ, zero, suc, ◌+◌, ◌<◌, ◌≤◌, ◌^◌, Bool, true, false, cond, not, ◌&&◌, ◌⊎◌, inl, inr, List, [], ◌∷◌, ◌++◌, length, get_or, take, drop, slice_index, All, Option, Some, None, Result, Ok, Err, refl, sym, ap, ◌∙◌, subst, arith, take-append-drop}
-use Rattle.std.specs.Prelude.{nat_le, nat_lt, ◌==◌, if◌then◌else◌, ⊤, codes, decimal}
-use Rattle.std.specs.List.{slice_split, onto_first, join_with_byte, position_or_len, before_first, after_first, list_all}
+use Rattle.std.proofs.Common.{◌≡◌, ℕ, zero, suc, ◌+◌, ◌<◌, ◌≤◌, ◌^◌, Bool, true, false, ◌&&◌, inl, inr, List, [], ◌∷◌, ◌++◌, length, get_or, take, drop, slice_index, Option, Some, None, Result, Ok, Err, refl, sym, ap, ◌∙◌, subst, arith, take-append-drop}
+use Rattle.std.specs.Prelude.{nat_le, nat_lt, if◌then◌else◌, ⊤, codes, decimal}
+use Rattle.std.specs.List.{position_or_len, before_first, after_first, list_all}
 use Rattle.std.specs.Str.{bytes_eq, all_ascii_digits}
 use Rattle.std.specs.Char.{is_ascii_digit}
 use Rattle.std.specs.Str.Parse.{digits_value}
-use Rattle.std.proofs.lemmas.Bool.{and_parts, and_from, eqb-true, cases_lt}
+use Rattle.std.proofs.lemmas.Bool.{and_parts, eqb-true, cases_lt}
 use Rattle.std.proofs.lemmas.Bool.Decides.{nat_tests}
-use Rattle.std.proofs.lemmas.Grind.{common_steps}
 use Rattle.std.proofs.lemmas.List.{drop_all}
 use Rattle.std.proofs.lemmas.Slice.Eq.{bytes_eq-Decides}
 use Rattle.std.proofs.lemmas.List.Sums.{split_at_first, passes_at_first}
 use Rattle.std.proofs.lemmas.Str.Parse.{IsNumeralModel, numerals_by_value, tells_all_ascii_digits}
 use Rattle.std.proofs.lemmas.Fmt.{decimal_is_IsNumeral, decimal-digits_value, first_decimal, length-decimal-le, decimal_digit}
-use Rattle.hex.specs.Hex.{decode_of, decode_sized}
+use Rattle.hex.specs.Hex.{decode_sized}
 use Rattle.hex.specs.declared.error.FromHexError.{FromHexError}
 use Rattle.eid_cells.specs.declared.tear.Tear.{Tear}
 use Rattle.eid_cells.specs.declared.tear.Tear.TheVariants.{Old, New, Half, Fill}
-use Rattle.eid_script.specs.Scripts.{ScriptLine, OnLine, OffLine, ApduLine, CutLine, command_line, filled, tear_of, is_plain_number, write_of, cut_at, is_space, cut_line, is_skipped, says}
+use Rattle.eid_script.specs.Scripts.{ScriptLine, OnLine, OffLine, ApduLine, CutLine, command_line, filled, tear_of, write_of, cut_at, is_space, cut_line, is_skipped, says}
 use Rattle.eid_script.specs.Grammar.{IsApdu, IsFill, IsTear, IsCut, Spells, IsNote}
-use Rattle.eid_script.proofs.Hexadecimal.{decodes, decoded, decodes_one, decoded_one}
+use Rattle.eid_text.specs.Hexadecimal.{bytes_within}
+use Rattle.eid_text.proofs.Hexadecimal.{decodes_one, decoded_one}
+use Rattle.eid_text.proofs.Decoding.{within_reads, within_told}
+use Rattle.eid_text.proofs.Readings.{Told, Agrees}
 
 -- a text that begins with these bytes
 front : (n : ℕ) (text word : List ℕ) → bytes_eq (take n text) word ≡ true → text ≡ word ++ drop n text
@@ -33,11 +35,11 @@ fits a b h = grind (arith, nat_tests)
 fits_true : (a b : ℕ) → nat_le a b ≡ true → a ≤ b
 fits_true a b h = grind (arith, nat_tests)
 
-command_reads : (bytes : List ℕ) → 1 ≤ length bytes → length bytes ≤ 65544 → command_line (Ok bytes) ≡ Some (ApduLine bytes ∷ [])
-command_reads bytes some most = rw (fits 1 (length bytes) some, fits (length bytes) 65544 most) refl
+command_reads : (bytes : List ℕ) → 1 ≤ length bytes → command_line (Some bytes) ≡ Some (ApduLine bytes ∷ [])
+command_reads bytes some = rw (fits 1 (length bytes) some) refl
 
 apdu_reads : (line bytes : List ℕ) → IsApdu line bytes → says line ≡ Some (ApduLine bytes ∷ [])
-apdu_reads line bytes h = ap says h.is ∙ ap command_line (decodes h.digits bytes h.hex) ∙ command_reads bytes h.some h.most
+apdu_reads line bytes h = ap says h.is ∙ ap command_line (within_reads 65544 h.digits bytes h.hex h.most) ∙ command_reads bytes h.some
 
 -- ---- what a cut leaves
 
@@ -167,40 +169,36 @@ cut_reads line write tear h =
 
 -- ---- lines
 
-pub spelled_reads : (line : List ℕ) (s : ScriptLine) → Spells line s → says line ≡ Some (s ∷ [])
+spelled_reads : (line : List ℕ) (s : ScriptLine) → Spells line s → says line ≡ Some (s ∷ [])
 spelled_reads line OnLine h = ap says h
 spelled_reads line OffLine h = ap says h
 spelled_reads line (ApduLine bytes) h = apdu_reads line bytes h
 spelled_reads line (CutLine write tear) h = cut_reads line write tear h
 
-pub note_reads : (line : List ℕ) → IsNote line → says line ≡ Some []
+note_reads : (line : List ℕ) → IsNote line → says line ≡ Some []
 note_reads [] h = refl
 note_reads (c ∷ cs) h = rw h refl
-
-abbrev pub Told : List ℕ → Option (List ScriptLine) → Type 0
-Told line None = ⊤
-Told line (Some []) = IsNote line
-Told line (Some (s ∷ [])) = Spells line s
-Told line (Some (s ∷ t ∷ more)) = ⊥
 
 told_note : (line : List ℕ) → is_skipped line ≡ true → IsNote line
 told_note [] h = tt
 told_note (c ∷ cs) h = eqb-true c 35 h
 
-told_command : (line : List ℕ) → line ≡ codes "apdu " ++ drop 5 line → (r : Result (List ℕ) FromHexError) → decode_of (drop 5 line) ≡ r → Told line (command_line r)
-told_command line is (Err e) h = tt
-told_command line is (Ok bytes) h = at (nat_le 1 (length bytes)) refl (nat_le (length bytes) 65544) refl
+told_command : (line : List ℕ) → line ≡ codes "apdu " ++ drop 5 line → (o : Option (List ℕ)) → bytes_within 65544 (drop 5 line) ≡ o
+    → Told IsNote Spells line (command_line o)
+told_command line is None h = tt
+told_command line is (Some bytes) h = at (nat_le 1 (length bytes)) refl
   where
-    at : (a : Bool) → nat_le 1 (length bytes) ≡ a → (b : Bool) → nat_le (length bytes) 65544 ≡ b → Told line (if a && b then Some (ApduLine bytes ∷ []) else None)
-    at false p b q = tt
-    at true p false q = tt
-    at true p true q = record {
-      digits = drop 5 line;
-      is = is;
-      hex = decoded (drop 5 line) bytes h;
-      some = fits_true 1 (length bytes) p;
-      most = fits_true (length bytes) 65544 q;
-    }
+    at : (a : Bool) → nat_le 1 (length bytes) ≡ a → Told IsNote Spells line (if a then Some (ApduLine bytes ∷ []) else None)
+    at false p = tt
+    at true p =
+        let parts = within_told 65544 (drop 5 line) bytes h in
+        record {
+          digits = drop 5 line;
+          is = is;
+          hex = parts.0;
+          some = fits_true 1 (length bytes) p;
+          most = parts.1;
+        }
 
 -- what follows the space holds no word where there is no space
 words_behind : (words : List ℕ) (tear : Tear) → tear_of (after_first is_space words) ≡ Some tear → position_or_len is_space words < length words
@@ -213,7 +211,7 @@ words_behind words tear h =
           absurd (cc)
     ]
 
-told_cut : (line words : List ℕ) → line ≡ codes "cut " ++ words → (w : Option ℕ) → write_of (before_first is_space words) ≡ w → (t : Option Tear) → tear_of (after_first is_space words) ≡ t → Told line (cut_at w t)
+told_cut : (line words : List ℕ) → line ≡ codes "cut " ++ words → (w : Option ℕ) → write_of (before_first is_space words) ≡ w → (t : Option Tear) → tear_of (after_first is_space words) ≡ t → Told IsNote Spells line (cut_at w t)
 told_cut line words is None p t q = tt
 told_cut line words is (Some write) p None q = tt
 told_cut line words is (Some write) p (Some tear) q =
@@ -232,14 +230,18 @@ told_cut line words is (Some write) p (Some tear) q =
       most = number.most;
     }
 
-pub told : (line : List ℕ) → Told line (says line)
+told : (line : List ℕ) → Told IsNote Spells line (says line)
 told line = at (is_skipped line) refl (bytes_eq line (codes "on")) refl (bytes_eq line (codes "off")) refl (bytes_eq (take 5 line) (codes "apdu ")) refl (bytes_eq (take 4 line) (codes "cut ")) refl
   where
     at : (a : Bool) → is_skipped line ≡ a → (b : Bool) → bytes_eq line (codes "on") ≡ b → (c : Bool) → bytes_eq line (codes "off") ≡ c → (d : Bool) → bytes_eq (take 5 line) (codes "apdu ") ≡ d → (e : Bool) → bytes_eq (take 4 line) (codes "cut ") ≡ e
-        → Told line (if a then Some [] else if b then Some (OnLine ∷ []) else if c then Some (OffLine ∷ []) else if d then command_line (decode_of (drop 5 line)) else if e then cut_line (drop 4 line) else None)
+        → Told IsNote Spells line (if a then Some [] else if b then Some (OnLine ∷ []) else if c then Some (OffLine ∷ []) else if d then command_line (bytes_within 65544 (drop 5 line)) else if e then cut_line (drop 4 line) else None)
     at true p b q c r d s e t = told_note line p
     at false p true q c r d s e t = (bytes_eq-Decides line (codes "on")).0 q
     at false p false q true r d s e t = (bytes_eq-Decides line (codes "off")).0 r
-    at false p false q false r true s e t = told_command line (front 5 line (codes "apdu ") s) (decode_of (drop 5 line)) refl
+    at false p false q false r true s e t = told_command line (front 5 line (codes "apdu ") s) (bytes_within 65544 (drop 5 line)) refl
     at false p false q false r false s true t = told_cut line (drop 4 line) (front 4 line (codes "cut ") t) (write_of (before_first is_space (drop 4 line))) refl (tear_of (after_first is_space (drop 4 line))) refl
     at false p false q false r false s false t = tt
+
+-- lines are read as the grammar says
+pub agrees : Agrees says IsNote Spells
+agrees = record { told = told; notes = note_reads; things = spelled_reads }

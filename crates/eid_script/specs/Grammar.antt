@@ -1,22 +1,11 @@
 -- The grammar of scripts, by what writes them. This project's own.
-use Rattle.std.specs.Prelude.{◌≡◌, ℕ, ◌+◌, ◌*◌, ◌/◌, ◌%◌, ◌<◌, ◌≤◌, ◌⊎◌, ◌↔◌, false, List, [], ◌∷◌, ◌++◌, length, slice_index, Ok, codes, decimal, ⊤}
-use Rattle.std.specs.List.{All, join_with_byte}
-use Rattle.hex.specs.Hex.{lower_digits, upper_digits}
+use Rattle.std.specs.Prelude.{◌≡◌, ℕ, ◌≤◌, ◌↔◌, List, [], ◌∷◌, ◌++◌, length, Ok, Err, codes, decimal, ⊤}
+use Rattle.eid_text.specs.Grammars.{Writes, BreaksOff}
+use Rattle.eid_text.specs.Hexadecimal.{IsHex}
+use Rattle.eid_text.specs.Lines.{text_limit}
 use Rattle.eid_cells.specs.declared.tear.Tear.{Tear}
 use Rattle.eid_cells.specs.declared.tear.Tear.TheVariants.{Old, New, Half, Fill}
-use Rattle.eid_script.specs.Scripts.{ScriptLine, OnLine, OffLine, ApduLine, CutLine, is_lf, script_limit, script_of}
-
--- a hexadecimal digit of this value, in either case
-abbrev pub IsDigit : ℕ → ℕ → Type 0
-IsDigit c value = (c ≡ slice_index lower_digits value) ⊎ (c ≡ slice_index upper_digits value)
-
--- two hexadecimal digits for each byte, the high four bits first
-abbrev pub IsHex : List ℕ → List ℕ → Type 0
-IsHex [] [] = ⊤
-IsHex [] (byte ∷ bytes) = ⊥
-IsHex (high ∷ []) bytes = ⊥
-IsHex (high ∷ low ∷ digits) [] = ⊥
-IsHex (high ∷ low ∷ digits) (byte ∷ bytes) = (byte < 256) × IsDigit high (byte / 16) × IsDigit low (byte % 16) × IsHex digits bytes
+use Rattle.eid_script.specs.Scripts.{ScriptLine, OnLine, OffLine, ApduLine, CutLine, script_of}
 
 -- `apdu HEX`, of 1 to 65,544 bytes
 pub record IsApdu (line bytes : List ℕ) : Type 0 where
@@ -59,25 +48,16 @@ abbrev pub IsNote : List ℕ → Type 0
 IsNote [] = ⊤
 IsNote (c ∷ cs) = c ≡ 35
 
--- lines each of which says nothing or the next of these things
-abbrev pub Say : List (List ℕ) → List ScriptLine → Type 0
-Say [] [] = ⊤
-Say [] (s ∷ said) = ⊥
-Say (line ∷ lines) [] = IsNote line × Say lines []
-Say (line ∷ lines) (s ∷ said) = (IsNote line × Say lines (s ∷ said)) ⊎ (Spells line s × Say lines said)
+-- a text whose lines say these things in this order
+abbrev pub IsScript : List ℕ → List ScriptLine → Type 0
+IsScript text said = Writes IsNote Spells text said
 
--- no LF stands in a line
-abbrev pub AreLines : List (List ℕ) → Type 0
-AreLines [] = ⊤
-AreLines (line ∷ lines) = All (λ c. is_lf c ≡ false) line × AreLines lines
+-- a text whose first line that says neither nothing nor a thing has this number
+abbrev pub IsBadFrom : List ℕ → ℕ → Type 0
+IsBadFrom text number = BreaksOff IsNote Spells text number
 
--- a text whose lines, parted by LF, say these things in this order; the last line may be empty
-pub record IsScript (text : List ℕ) (said : List ScriptLine) : Type 0 where
-  pub lines : List (List ℕ)
-  pub parted : AreLines lines
-  pub is : text ≡ join_with_byte 10 lines
-  pub say : Say lines said
-
--- the texts that are read, and what they are read to, are those of the grammar
-abbrev pub ReadsTheGrammar : Type 0
-ReadsTheGrammar = (text : List ℕ) (said : List ScriptLine) → length text ≤ script_limit → (script_of text ≡ Ok said) ↔ IsScript text said
+-- the texts that are read, and what they are read to, are those of the grammar; the others are refused by their first
+-- bad line
+pub record ReadsTheGrammar : Type 0 where
+  pub reads : (text : List ℕ) (said : List ScriptLine) → length text ≤ text_limit → (script_of text ≡ Ok said) ↔ IsScript text said
+  pub names : (text : List ℕ) (line : ℕ) → length text ≤ text_limit → (script_of text ≡ Err line) ↔ IsBadFrom text line

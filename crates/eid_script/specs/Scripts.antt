@@ -1,11 +1,14 @@
 -- Scripts: one line for each thing that comes, and for each power cut that is planned. This project's own.
-use Rattle.std.specs.Prelude.{◌≡◌, ℕ, ◌+◌, Bool, true, ◌==◌, ◌&&◌, nat_le, nat_lt, List, [], ◌∷◌, ◌++◌, length, take, drop, slice_index, Option, Some, None, if◌then◌else◌, Result, Ok, Err, codes, ⊤}
-use Rattle.std.specs.List.{slice_split, before_first, after_first, list_all}
+use Rattle.std.specs.Prelude.{◌≡◌, ℕ, Bool, true, ◌==◌, ◌&&◌, nat_le, nat_lt, List, [], ◌∷◌, length, take, drop, slice_index}
+use Rattle.std.specs.Prelude.{Option, Some, None, if◌then◌else◌, Result, Ok, Err, codes, ⊤}
+use Rattle.std.specs.List.{before_first, after_first, list_all}
 use Rattle.std.specs.Str.{bytes_eq}
 use Rattle.std.specs.Str.Parse.{digits_value}
 use Rattle.std.specs.Char.{is_ascii_digit}
-use Rattle.hex.specs.Hex.{decode_of, decode_sized}
+use Rattle.hex.specs.Hex.{decode_sized}
 use Rattle.hex.specs.declared.error.FromHexError.{FromHexError}
+use Rattle.eid_text.specs.Hexadecimal.{bytes_within}
+use Rattle.eid_text.specs.Lines.{said_in}
 use Rattle.eid_cells.specs.declared.tear.Tear.{Tear}
 use Rattle.eid_cells.specs.declared.tear.Tear.TheVariants.{Old, New, Half, Fill}
 use Rattle.eid_script.specs.declared.script.Line.{Line}
@@ -27,10 +30,10 @@ plain_line Off = OffLine
 plain_line (Apdu bytes) = ApduLine bytes.items
 plain_line (Cut write tear) = CutLine write tear
 
--- the bytes of a command: 1 to 65,544 of them
-abbrev pub command_line : Result (List ℕ) FromHexError → Option (List ScriptLine)
-command_line (Err e) = None
-command_line (Ok bytes) = if nat_le 1 (length bytes) && nat_le (length bytes) 65544 then Some (ApduLine bytes ∷ []) else None
+-- the command of these bytes, of which there are some
+abbrev pub command_line : Option (List ℕ) → Option (List ScriptLine)
+command_line None = None
+command_line (Some bytes) = if nat_le 1 (length bytes) then Some (ApduLine bytes ∷ []) else None
 
 -- what `fill XX` leaves, the byte in two hexadecimal digits
 abbrev pub filled : Result (List ℕ) FromHexError → Option Tear
@@ -77,47 +80,15 @@ says line =
     if is_skipped line then Some []
     else if bytes_eq line (codes "on") then Some (OnLine ∷ [])
     else if bytes_eq line (codes "off") then Some (OffLine ∷ [])
-    else if bytes_eq (take 5 line) (codes "apdu ") then command_line (decode_of (drop 5 line))
+    else if bytes_eq (take 5 line) (codes "apdu ") then command_line (bytes_within 65544 (drop 5 line))
     else if bytes_eq (take 4 line) (codes "cut ") then cut_line (drop 4 line)
     else None
 
--- what was said first, and then what is said later
-abbrev pub after : List ScriptLine → Result (List ScriptLine) ℕ → Result (List ScriptLine) ℕ
-after first (Ok later) = Ok (first ++ later)
-after first (Err line) = Err line
-
--- what a line of this number says, and then what is said later
-abbrev pub joined : ℕ → Option (List ScriptLine) → Result (List ScriptLine) ℕ → Result (List ScriptLine) ℕ
-joined number None later = Err number
-joined number (Some first) later = after first later
-
--- what lines say together, counted from this number, or the number of the first that is no line of a script
-abbrev pub all_say : ℕ → List (List ℕ) → Result (List ScriptLine) ℕ
-all_say number [] = Ok []
-all_say number (line ∷ lines) = joined number (says line) (all_say (number + 1) lines)
-
--- the end of a line
-abbrev pub is_lf : ℕ → Bool
-is_lf c = c == 10
-
--- what a text says: each of its lines ends with LF, the last one with or without it
-abbrev pub text_says : List ℕ → Result (List ScriptLine) ℕ
-text_says text = all_say 1 (slice_split is_lf text)
-
--- the longest script
-abbrev pub script_limit : ℕ
-script_limit = 1048576
-
 -- what a script says, or the first line that is none, 0 where the text is too long
 abbrev pub script_of : List ℕ → Result (List ScriptLine) ℕ
-script_of text = if nat_le (length text) script_limit then text_says text else Err 0
+script_of text = said_in says text
 
 -- a refusal that names a line names that one
 abbrev pub NamesLine : ScriptError → Result (List ScriptLine) ℕ → Type 0
 NamesLine (Bad line) said = said ≡ Err line
 NamesLine NoMemory said = ⊤
-
--- the lines behind an LF, where there is one
-abbrev pub rest_lines : Option (List ℕ) → List (List ℕ)
-rest_lines None = []
-rest_lines (Some text) = slice_split is_lf text

@@ -7,6 +7,3 @@ mod script;
 
 pub use law::law_script_grammar;
 pub use script::{Line, ScriptError, read_script};
-
-#[cfg(test)]
-mod tests;

@@ -1,18 +1,22 @@
 //! Reading a script.
-ghost use Rattle.std.specs.Prelude.{◌≡◌, ◌↔◌, ◌<◌, ◌≤◌, [], ◌∷◌, length, map, position, Some, IfOk, IfErr, IsErrOf, IfSome, IfNone, None, option_map, true};
+ghost use Rattle.std.specs.Prelude.{◌≡◌, ◌↔◌, ◌<◌, ◌≤◌, ◌++◌, [], ◌∷◌, length, map, position, option_map, true};
+ghost use Rattle.std.specs.Prelude.{Some, None, Ok, IfOk, IfErr, OnOk, IsErrOf, IfSome, IfNone, IsSome};
 ghost use Rattle.std.specs.Option.{option_to_list};
 ghost use Rattle.std.specs.List.{slice_split, before_first, after_first, list_all};
 ghost use Rattle.std.specs.Char.{is_ascii_digit};
 ghost use Rattle.std.specs.Str.Parse.{digits_value};
-ghost use Rattle.hex.specs.Hex.{decode_of, decode_sized};
-ghost use Rattle.eid_script.specs.Scripts.{plain_line, command_line, filled, tear_of, write_of, cut_line, is_space, says, text_says, script_of, script_limit, NamesLine, is_lf, rest_lines};
+ghost use Rattle.hex.specs.Hex.{decode_sized};
+ghost use Rattle.eid_text.specs.Hexadecimal.{bytes_within};
+ghost use Rattle.eid_text.specs.Lines.{is_lf, text_limit, text_says};
+ghost use Rattle.eid_script.specs.Scripts.{plain_line, command_line, filled, tear_of, write_of, cut_line, is_space, says, script_of, NamesLine};
 
+use eid_base::NoMemory;
 use eid_cells::Tear;
-use hex::FromHexError;
+use eid_text::{are_digits, decode_hex};
 use std::alloc::Global;
 
 /// A line of a script.
-#[derive(Debug, Drop)]
+#[derive(Drop)]
 pub enum Line {
     /// Power.
     On,
@@ -30,7 +34,7 @@ pub enum Line {
 }
 
 /// Why a script was not read.
-#[derive(Clone, Copy, Debug, PartialEq, Eq)]
+#[derive(Clone, Copy, Debug)]
 pub enum ScriptError {
     /// The text is no script.
     Bad {
@@ -42,7 +46,7 @@ pub enum ScriptError {
 }
 
 /// Why a line was not read.
-#[derive(Clone, Copy, Debug)]
+#[derive(Clone, Copy)]
 enum LineError {
     /// It is not of the grammar.
     Bad,
@@ -63,27 +67,20 @@ const MAX_WRITE: u32 = 1_000_000;
 const MAX_DIGITS: usize = 7;
 
 /// The command whose bytes stand there in hexadecimal.
+#[tactic(auto, using(crate::proofs::Commands::command_said, crate::proofs::Commands::good_command, crate::proofs::Commands::no_command))]
 fn read_apdu(alloc: Global, digits: &[u8]) -> Result<Line, LineError>
-    ensures found { IfOk result (λ line. command_line (decode_of digits.now) ≡ Some (plain_line line ∷ [])) }
-    ensures bad { IsErrOf result LineError.Bad → command_line (decode_of digits.now) ≡ None }
+    ensures found { IfOk result (λ line. command_line (bytes_within 65544 digits.now) ≡ Some (plain_line line ∷ [])) }
+    ensures bad { IsErrOf result LineError.Bad → command_line (bytes_within 65544 digits.now) ≡ None }
+    ensures no_memory { IsErrOf result LineError.NoMemory → IsSome (command_line (bytes_within 65544 digits.now)) }
 {
-    match hex::decode(alloc, digits) {
-        Ok(bytes) => {
-            if bytes.is_empty() || bytes.len() > MAX_COMMAND {
-                return Err(LineError::Bad);
-            }
-            Ok(Line::Apdu(bytes))
-        }
-        Err(FromHexError::OutOfMemory) => Err(LineError::NoMemory),
-        Err(_) => Err(LineError::Bad),
+    if digits.is_empty() {
+        return Err(LineError::Bad);
     }
-}
-
-/// Whether each byte is a decimal digit.
-fn are_digits(word: &[u8]) -> bool
-    ensures { result ≡ list_all is_ascii_digit word.now }
-{
-    word.iter().all(|c| c.is_ascii_digit())
+    match decode_hex(alloc, digits, MAX_COMMAND) {
+        Ok(Some(bytes)) => Ok(Line::Apdu(bytes)),
+        Ok(None) => Err(LineError::Bad),
+        Err(NoMemory) => Err(LineError::NoMemory),
+    }
 }
 
 /// The number that at most seven digits write.
@@ -181,6 +178,7 @@ fn read_cut(words: &[u8]) -> Option<Line>
 fn read_line(alloc: Global, line: &[u8]) -> Result<Option<Line>, LineError>
     ensures found { IfOk result (λ said. says line.now ≡ Some (map plain_line (option_to_list said))) }
     ensures bad { IsErrOf result LineError.Bad → says line.now ≡ None }
+    ensures no_memory { IsErrOf result LineError.NoMemory → IsSome (says line.now) }
 {
     if line.is_empty() || line[0] == b'#' {
         return Ok(None);
@@ -206,49 +204,34 @@ fn read_line(alloc: Global, line: &[u8]) -> Result<Option<Line>, LineError>
     }
 }
 
-/// Where the first LF of a text stands.
-fn lf_at(text: &[u8]) -> Option<usize>
-    ensures { result ≡ position is_lf text.now }
+/// Appends what a line said.
+fn keep(lines: &mut Vec<Line>, said: Option<Line>) -> Result<(), NoMemory>
+    ensures { OnOk result (map plain_line lines.new.items ≡ map plain_line lines.old.items ++ map plain_line (option_to_list said)) }
 {
-    text.iter().position(|c| *c == b'\n')
-}
-
-/// The first line of a text, and what follows its LF.
-#[tactic(auto, using(crate::proofs::Lines::no_lf, crate::proofs::Lines::first_lf))]
-fn first_line(text: &[u8]) -> (&[u8], Option<&[u8]>)
-    ensures lines { slice_split is_lf text.now ≡ result.0.now ∷ rest_lines (option_map (λ rest. rest.now) result.1) }
-    ensures shorter { IfSome result.1 (λ rest. length rest.now < length text.now) }
-{
-    match lf_at(text) {
-        Some(at) => (&text[..at], Some(&text[at + 1..])),
-        None => (text, None),
+    if let Some(line) = said {
+        lines.push(line)?;
     }
+    Ok(())
 }
 
 /// Reads the lines of a text.
-#[tactic(auto, using(crate::proofs::Lines::after_more))]
 fn read_lines(alloc: Global, text: &[u8]) -> Result<Vec<Line>, ScriptError>
-    requires { length text.now ≤ script_limit }
-    ensures found { IfOk result (λ lines. text_says text.now ≡ Ok (map plain_line lines.items)) }
-    ensures bad { IfErr result (λ e. NamesLine e (text_says text.now)) }
+    requires { length text.now ≤ text_limit }
+    ensures found { IfOk result (λ lines. text_says says text.now ≡ Ok (map plain_line lines.items)) }
+    ensures bad { IfErr result (λ e. NamesLine e (text_says says text.now)) }
 {
     let mut lines = Vec::new(alloc);
-    let mut number = 0u32;
-    let mut rest = Some(text);
-    while let Some(text) = rest {
+    let mut number = 0;
+    for line in text.split(|byte| *byte == b'\n') {
         number += 1;
-        let (line, after) = first_line(text);
         let said = match read_line(alloc, line) {
             Ok(said) => said,
             Err(LineError::Bad) => return Err(ScriptError::Bad { line: number }),
             Err(LineError::NoMemory) => return Err(ScriptError::NoMemory),
         };
-        if let Some(line) = said {
-            if lines.push(line).is_err() {
-                return Err(ScriptError::NoMemory);
-            }
-        }
-        rest = after;
+        let Ok(()) = keep(&mut lines, said) else {
+            return Err(ScriptError::NoMemory);
+        };
     }
     Ok(lines)
 }
@@ -263,11 +246,11 @@ fn read_lines(alloc: Global, text: &[u8]) -> Result<Vec<Line>, ScriptError>
 /// `Bad` with the first line that is none of these, where lines are counted from 1 and the
 /// skipped ones count; with line 0 exactly where the text is over 1,048,576 bytes. `NoMemory`
 /// only where memory was refused.
-#[tactic(auto, using(crate::proofs::Lines::names_a_line))]
+#[tactic(auto, using(crate::proofs::Numbers::too_long, crate::proofs::Numbers::short_enough, crate::proofs::Numbers::names_a_line))]
 pub fn read_script(alloc: Global, text: &[u8]) -> Result<Vec<Line>, ScriptError>
     ensures found { IfOk result (λ lines. script_of text.now ≡ Ok (map plain_line lines.items)) }
     ensures bad { IfErr result (λ e. NamesLine e (script_of text.now)) }
-    ensures too_long { IsErrOf result (ScriptError.Bad 0) ↔ (script_limit < length text.now) }
+    ensures too_long { IsErrOf result (ScriptError.Bad 0) ↔ (text_limit < length text.now) }
 {
     if text.len() > MAX_SCRIPT {
         return Err(ScriptError::Bad { line: 0 });

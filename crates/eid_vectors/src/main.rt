@@ -5,8 +5,12 @@
 
 mod channels;
 mod ciphers;
+mod configurations;
+mod coprocessors;
 mod messages;
 mod objects;
+mod passwords;
+mod scripts;
 mod templates;
 mod words;
 
@@ -45,6 +49,19 @@ fn answer(alloc: Global, line: &str) -> Answer {
         "date" => templates::date(alloc, words),
         "template" => templates::template(alloc, words),
         "identifier" => templates::identifier(alloc, words),
+        "ask" => coprocessors::ask(alloc, words),
+        "answers" => coprocessors::answers(alloc, words),
+        "answers-in" => coprocessors::answers_in_bytes(alloc, words),
+        "password" => passwords::password(alloc, words),
+        "select" => passwords::select(alloc, words),
+        "pace" => passwords::pace(alloc, words),
+        "config" => configurations::config(alloc, words),
+        "document" => configurations::document(alloc, words),
+        "document-in" => configurations::document_in(alloc, words),
+        "image" => configurations::image(alloc, words),
+        "record" => configurations::record(alloc, words),
+        "script" => scripts::script(alloc, words),
+        "script-in" => scripts::script_in(alloc, words),
         _ => Err(Unanswered::Unclear),
     }
 }

@@ -1,5 +1,6 @@
 //! The words of a question, and the words of an answer.
 use arrayvec::ArrayVec;
+use eid_base::NoMemory;
 use hex::FromHexError;
 use sha2::{Digest, Sha256};
 use std::alloc::{AllocError, Global};
@@ -22,6 +23,12 @@ pub type Answer = Result<String, Unanswered>;
 
 impl From<AllocError> for Unanswered {
     fn from(_error: AllocError) -> Unanswered {
+        Unanswered::NoMemory
+    }
+}
+
+impl From<NoMemory> for Unanswered {
+    fn from(_error: NoMemory) -> Unanswered {
         Unanswered::NoMemory
     }
 }
@@ -62,6 +69,20 @@ pub fn bytes(alloc: Global, word: &str) -> Result<Vec<u8>, Unanswered> {
         put_piece(alloc, piece, &mut bytes)?;
     }
     Ok(bytes)
+}
+
+/// The text that words are, with one space between two of them and LF for each `|`.
+pub fn text(alloc: Global, words: &[&str]) -> Result<Vec<u8>, AllocError> {
+    let mut text = Vec::new(alloc);
+    for (i, word) in words.iter().enumerate() {
+        if i > 0 {
+            text.push(b' ')?;
+        }
+        for byte in word.as_bytes() {
+            text.push(if *byte == b'|' { b'\n' } else { *byte })?;
+        }
+    }
+    Ok(text)
 }
 
 /// Appends the bytes of a piece.

@@ -8,5 +8,5 @@ pub returns : goal.returns
 returns g c =
     let spelled = token_spelled (known_bytes c.args.protocol) c.args.point.now (short_identifier c.args.protocol) c.told-point in
     let is = c.bytes-identifier.ensures in
-    let coded = rw append-nil at c.cmac-mac.ensures in
+    let coded = rw append-nil at c.mac8.ensures in
     cc

@@ -1,16 +1,16 @@
 -- What decodes is what hexadecimal digits write.
-use Rattle.std.proofs.Common.{◌≡◌, ℕ, zero, suc, ◌+◌, ◌*◌, ◌/◌, ◌%◌, ◌<◌, ◌≤◌, ◌==◌, Bool, true, false, ◌&&◌, ◌||◌, ◌⊎◌, inl, inr, List, [], ◌∷◌, length, slice_index, Option, Some, None, Result, Ok, Err, refl, sym, ap, ◌∙◌, arith}
+use Rattle.std.proofs.Common.{◌≡◌, ℕ, zero, suc, ◌+◌, ◌*◌, ◌/◌, ◌%◌, ◌<◌, ◌==◌, Bool, true, false, ◌&&◌, ◌||◌, ◌⊎◌, inl, inr, List, [], ◌∷◌, length, slice_index, Option, Some, None, Result, Ok, Err, refl, sym, ap, ◌∙◌, subst, arith}
 use Rattle.std.specs.Result.{result_unwrap_or}
 use Rattle.std.proofs.lemmas.Bool.{and_parts, cases_lt, eqb-true}
 use Rattle.hex.specs.Hex.{decode_of, decode_sized, decode_pairs, digit_or_error, hex_digit_value, lower_digits, upper_digits, pair_value, value_at, ◌>>=◌}
 use Rattle.hex.specs.declared.error.FromHexError.{FromHexError}
 use Rattle.hex.proofs.Pairs.{cons_byte, decode_pairs-ok_pair}
-use Rattle.hex.proofs.HexLemmas.{IsDigits, IsDigits-lower_digits, IsDigits-upper_digits, decode_of-even, decode_of-ok, decode_sized-ok, decode_sized-twice}
-use Rattle.eid_script.specs.Grammar.{IsDigit, IsHex}
+use Rattle.hex.proofs.HexLemmas.{IsDigits-lower_digits, IsDigits-upper_digits, decode_of-even, decode_of-ok, decode_sized-ok, decode_sized-twice}
+use Rattle.eid_text.specs.Hexadecimal.{IsDigit, IsHex}
 
 -- ---- one digit
 
-digit_reads : (c v : ℕ) → v < 16 → IsDigit c v → hex_digit_value c ≡ Some v
+pub digit_reads : (c v : ℕ) → v < 16 → IsDigit c v → hex_digit_value c ≡ Some v
 digit_reads c v small (inl lower) = rw lower (IsDigits-lower_digits v small)
 digit_reads c v small (inr upper) = rw upper (IsDigits-upper_digits v small)
 
@@ -111,7 +111,7 @@ hex_writes i (high ∷ low ∷ digits) bytes h =
     let byte : p1.0 * 16 + p2.0 ≡ p0.0 = ap (λ (r : Result ℕ FromHexError). result_unwrap_or r 0) p2.2 in
     one_more high low p1.0 p2.0 p0.0 digits p3.0 bytes (digit_read high i (hex_digit_value high) p1.0 p1.1) (digit_read low (i + 1) (hex_digit_value low) p2.0 p2.1) (sym byte) rest e
 
-hex_length : (digits bytes : List ℕ) → IsHex digits bytes → length digits ≡ 2 * length bytes
+pub hex_length : (digits bytes : List ℕ) → IsHex digits bytes → length digits ≡ 2 * length bytes
 hex_length [] [] h = refl
 hex_length [] (byte ∷ bytes) h = absurd h
 hex_length (high ∷ []) bytes h = absurd h
@@ -128,10 +128,22 @@ decoded digits bytes h =
     let parts = decode_of-ok digits bytes h in
     hex_writes 0 digits bytes (sym (decode_of-even digits parts.0) ∙ h)
 
+-- the same where the number of bytes is known
+pub decodes_sized : (digits bytes : List ℕ) (n : ℕ) → IsHex digits bytes → length bytes ≡ n → decode_sized digits n ≡ Ok bytes
+decodes_sized digits bytes n h size =
+    let twice = hex_length digits bytes h in
+    decode_sized-twice digits n (omega (arith, twice, size)) ∙ decodes digits bytes h
+
+pub decoded_sized : (digits bytes : List ℕ) (n : ℕ) → decode_sized digits n ≡ Ok bytes → IsHex digits bytes × (length bytes ≡ n)
+decoded_sized digits bytes n h =
+    let two = decode_sized-ok digits n bytes h in
+    let plain : decode_of digits ≡ Ok bytes = sym (decode_sized-twice digits n two) ∙ h in
+    let parts = decode_of-ok digits bytes plain in
+    (decoded digits bytes plain, omega (arith, two, parts.2))
+
+-- one byte
 pub decodes_one : (digits : List ℕ) (byte : ℕ) → IsHex digits (byte ∷ []) → decode_sized digits 1 ≡ Ok (byte ∷ [])
-decodes_one digits byte h =
-    let twice = hex_length digits (byte ∷ []) h in
-    decode_sized-twice digits 1 (omega arith) ∙ decodes digits (byte ∷ []) h
+decodes_one digits byte h = decodes_sized digits (byte ∷ []) 1 h refl
 
 one_byte : (bytes : List ℕ) → length bytes ≡ 1 → bytes ≡ slice_index bytes 0 ∷ []
 one_byte [] h = absurd (omega arith)
@@ -140,9 +152,5 @@ one_byte (byte ∷ other ∷ bytes) h = absurd (omega arith)
 
 pub decoded_one : (digits bytes : List ℕ) → decode_sized digits 1 ≡ Ok bytes → IsHex digits (slice_index bytes 0 ∷ [])
 decoded_one digits bytes h =
-    let two = decode_sized-ok digits 1 bytes h in
-    let plain : decode_of digits ≡ Ok bytes = sym (decode_sized-twice digits 1 (omega arith)) ∙ h in
-    let parts = decode_of-ok digits bytes plain in
-    let one : length bytes ≡ 1 = omega arith in
-    let is = one_byte bytes one in
-    decoded digits (slice_index bytes 0 ∷ []) (plain ∙ ap Ok is)
+    let parts = decoded_sized digits bytes 1 h in
+    subst (λ (b : List ℕ). IsHex digits b) (one_byte bytes parts.1) parts.0

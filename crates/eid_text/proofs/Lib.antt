@@ -1,0 +1,4 @@
+pub mod Hexadecimal
+pub mod Decoding
+pub mod Readings
+pub mod Turns

@@ -1,0 +1,169 @@
+//! Questions about personalisation. A question has changes to one configuration, parted by `|`: `KEY` leaves the key
+//! out, `KEY VALUE` gives it another value, and `KEY file:N` so many bytes 00.
+use crate::words::{self, Unanswered, bytes, number, shown, text, word};
+use eid_perso::{Config, ConfigError, image_of, read_config, show_text};
+use std::alloc::Global;
+
+/// The keys and values of the configuration.
+#[rattlefmt::skip]
+const BASE: [(&str, &str); 17] = [
+    ("pin", "\"123456\""),
+    ("can", "\"654321\""),
+    ("puk", "\"0123456789\""),
+    ("date", "\"260101\""),
+    ("trust_name", "\"DECVCAAT00001\""),
+    ("trust_template", "\"FE1FFFFF37\""),
+    ("trust_key", "\"0400000000000000000000000000000000000000000000000000000000000000230000000000000000000000000000000000000000000000000000000000000000\""),
+    ("ca_secret", "\"0000000000000000000000000000000000000000000000000000000000000009\""),
+    ("ri_secret", "\"000000000000000000000000000000000000000000000000000000000000000b\""),
+    ("card_access", "\"3100\""),
+    ("card_security", "\"3000\""),
+    ("dg3", "\"3230333031323331\""),
+    ("dg4", "\"4552494b41\""),
+    ("dg5", "\"4d55535445524d414e4e\""),
+    ("dg8", "\"3139393030333135\""),
+    ("dg17", "\"0000000000000000\""),
+    ("dg18", "\"02761100000000\""),
+];
+
+/// The key that a change is of.
+fn key_of(change: &str) -> &str {
+    match change.split_once(' ') {
+        Some((key, _)) => key,
+        None => change,
+    }
+}
+
+/// Whether one of the changes is of that key.
+fn is_changed(key: &str, changes: &str) -> bool {
+    for change in changes.split('|') {
+        if key_of(change) == key {
+            return true;
+        }
+    }
+    false
+}
+
+/// Appends the line of a key.
+fn put_line(document: &mut String, key: &str, value: &str) -> Result<(), Unanswered> {
+    document.push_str(key)?;
+    document.push_str(" = ")?;
+    document.push_str(value)?;
+    document.push_str("\n")?;
+    Ok(())
+}
+
+/// Appends the line of a file of so many bytes.
+fn put_file(document: &mut String, key: &str, size: u32) -> Result<(), Unanswered> {
+    document.push_str(key)?;
+    document.push_str(" = '")?;
+    for _ in 0..size {
+        document.push_str("00")?;
+    }
+    document.push_str("'\n")?;
+    Ok(())
+}
+
+/// Appends the line that a change gives, if it gives one.
+fn put_change(document: &mut String, change: &str) -> Result<(), Unanswered> {
+    let Some((key, value)) = change.split_once(' ') else {
+        return Ok(());
+    };
+    match value.strip_prefix("file:") {
+        Some(size) => put_file(document, key, number(size)?),
+        None => put_line(document, key, value),
+    }
+}
+
+/// The configuration with these changes.
+fn changed(alloc: Global, changes: &str) -> Result<String, Unanswered> {
+    let mut document = String::new(alloc);
+    for (key, value) in BASE {
+        if !is_changed(key, changes) {
+            put_line(&mut document, key, value)?;
+        }
+    }
+    for change in changes.split('|') {
+        put_change(&mut document, change)?;
+    }
+    Ok(document)
+}
+
+/// The key that a reading refused.
+fn refused(alloc: Global, error: ConfigError) -> words::Answer {
+    match error {
+        ConfigError::Bad { key } => Ok(format!(in alloc; "key {key}")?),
+        ConfigError::NoMemory => Err(Unanswered::NoMemory),
+    }
+}
+
+/// Whether a text is read, or the key that is refused.
+fn read(alloc: Global, document: &[u8]) -> words::Answer {
+    match read_config(alloc, document) {
+        Ok(_) => word(alloc, "read"),
+        Err(error) => refused(alloc, error),
+    }
+}
+
+/// The words of a question as they stood in its line.
+fn joined(alloc: Global, words: &[&str]) -> Result<String, Unanswered> {
+    let mut line = String::new(alloc);
+    for (i, word) in words.iter().enumerate() {
+        if i > 0 {
+            line.push_str(" ")?;
+        }
+        line.push_str(word)?;
+    }
+    Ok(line)
+}
+
+/// `config CHANGES`: whether the configuration with these changes is read, or the key that is refused.
+pub fn config(alloc: Global, words: &[&str]) -> words::Answer {
+    let changes = joined(alloc, words)?;
+    let document = changed(alloc, changes.as_str())?;
+    read(alloc, document.as_bytes())
+}
+
+/// `document TEXT`: the same of a whole text, in which `|` stands for LF.
+pub fn document(alloc: Global, words: &[&str]) -> words::Answer {
+    let document = text(alloc, words)?;
+    read(alloc, &document)
+}
+
+/// `document-in BYTES`: the same of a whole text by its bytes.
+pub fn document_in(alloc: Global, words: &[&str]) -> words::Answer {
+    let [document] = words else {
+        return Err(Unanswered::Unclear);
+    };
+    let document = bytes(alloc, document)?;
+    read(alloc, &document)
+}
+
+/// `image CHANGES`: the image of the configuration with these changes.
+pub fn image(alloc: Global, words: &[&str]) -> words::Answer {
+    let changes = joined(alloc, words)?;
+    let document = changed(alloc, changes.as_str())?;
+    match read_config(alloc, document.as_bytes()) {
+        Ok(config) => shown(alloc, &image_of(alloc, &config)?),
+        Err(error) => refused(alloc, error),
+    }
+}
+
+/// `record CHANGES`: the text that shows the record of the configuration with these changes, with `|` for LF.
+pub fn record(alloc: Global, words: &[&str]) -> words::Answer {
+    let changes = joined(alloc, words)?;
+    let document = changed(alloc, changes.as_str())?;
+    match read_config(alloc, document.as_bytes()) {
+        Ok(config) => shown_record(alloc, &config),
+        Err(error) => refused(alloc, error),
+    }
+}
+
+/// The text that shows the record of a configuration, with `|` for LF.
+fn shown_record(alloc: Global, config: &Config) -> words::Answer {
+    let text = show_text(alloc, &config.kept, config.layout)?;
+    let Ok(text) = std::str::from_utf8(&text) else {
+        return Err(Unanswered::Unclear);
+    };
+    Ok(text.replace(alloc, "\n", "|")?)
+}
