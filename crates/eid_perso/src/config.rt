@@ -2,7 +2,7 @@
 use eid_record::Record;
 
 /// A configuration: what a new image holds.
-#[derive(Debug, Drop)]
+#[derive(Drop)]
 pub struct Config {
     /// The layout of the image, which is 1.
     pub layout: u8,
