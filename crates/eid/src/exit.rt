@@ -5,7 +5,7 @@ ghost use Rattle.eid.specs.Exits.{exit_status, exit_broken, exit_not_stored, exi
 use eid_base::{IoError, RunError};
 
 /// What the program ends in. The exit statuses are 0 to 8 in this order.
-#[derive(Clone, Copy, Debug, PartialEq, Eq)]
+#[derive(Clone, Copy)]
 pub enum Exit {
     /// The work is done.
     Done,

@@ -32,7 +32,7 @@ const ANSWERS_LIMIT: usize = 1_048_576;
 const CONFIG_LIMIT: usize = 1_048_576;
 
 /// What came of reading a file whole, up to a limit.
-#[derive(Debug, Drop)]
+#[derive(Drop)]
 pub enum Read {
     /// All its bytes.
     Whole(Vec<u8>),

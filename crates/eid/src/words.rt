@@ -7,7 +7,7 @@ use eid_base::NoMemory;
 use std::alloc::Global;
 
 /// What the words ask for.
-#[derive(Clone, Copy, Debug)]
+#[derive(Clone, Copy)]
 pub enum Words<'a> {
     /// To run a script on an image with the model coprocessor.
     Run {
@@ -55,13 +55,6 @@ fn number(alloc: Global, text: &str) -> Result<Option<u64>, NoMemory>
     } else {
         Ok(None)
     }
-}
-
-/// Whether the word is this one.
-fn is(word: &str, text: &str) -> bool
-    ensures { IsTrue result ↔ (word.now ≡ text.now) }
-{
-    word == text
 }
 
 /// What the words behind `run` ask for.
@@ -132,17 +125,11 @@ pub fn read_words(alloc: Global, words: &[String]) -> Result<Option<Words<'_>>, 
     let [first, rest @ ..] = words else {
         return Ok(None);
     };
-    if is(first.as_str(), "run") {
-        return run_words(alloc, rest);
+    match first.as_str() {
+        "run" => run_words(alloc, rest),
+        "replay" => Ok(replay_words(rest)),
+        "make" => Ok(make_words(rest)),
+        "show" => Ok(show_words(rest)),
+        _ => Ok(None),
     }
-    if is(first.as_str(), "replay") {
-        return Ok(replay_words(rest));
-    }
-    if is(first.as_str(), "make") {
-        return Ok(make_words(rest));
-    }
-    if is(first.as_str(), "show") {
-        return Ok(show_words(rest));
-    }
-    Ok(None)
 }

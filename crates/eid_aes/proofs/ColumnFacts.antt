@@ -3,7 +3,7 @@ use Rattle.std.proofs.Common.{◌≡◌, ℕ, zero, suc, ◌+◌, ◌*◌, ◌/�
 use Rattle.std.specs.Prelude.{nat_eq}
 use Rattle.std.specs.Int.{w32, byte_at, from_le_bytes}
 use Rattle.std.proofs.lemmas.Nat.{xor_mod, xor_shr}
-use Rattle.eid_aes.specs.Field.{product, product_of_bits, times_x, sub}
+use Rattle.eid_aes.specs.Field.{product, product_of_bits, xtimes, sub}
 use Rattle.eid_aes.specs.Cipher.{places, coefficient, sum_of_four, mixed_byte, mixing, sub_bytes, shift_rows, mix_columns, xor_block, round_key, add_round_key}
 use Rattle.eid_aes.specs.Columns.{state_of, round_byte, last_byte}
 use Rattle.eid_aes.specs.declared.tables.TheConstants.{SUBSTITUTION, MIXED_0, MIXED_1, MIXED_2, MIXED_3}
@@ -53,19 +53,19 @@ entry_of table k h x r hx hr =
     ∙ ap (product (coefficient mixing r k)) (SUBSTITUTION_at x hx)
 
 mixed_0 : entries MIXED_0 0 ≡ true
-unfolding times_x product_of_bits product
+unfolding xtimes product_of_bits product
 mixed_0 = refl
 
 mixed_1 : entries MIXED_1 1 ≡ true
-unfolding times_x product_of_bits product
+unfolding xtimes product_of_bits product
 mixed_1 = refl
 
 mixed_2 : entries MIXED_2 2 ≡ true
-unfolding times_x product_of_bits product
+unfolding xtimes product_of_bits product
 mixed_2 = refl
 
 mixed_3 : entries MIXED_3 3 ≡ true
-unfolding times_x product_of_bits product
+unfolding xtimes product_of_bits product
 mixed_3 = refl
 
 -- a sum of entries and of the key's column

@@ -4,7 +4,7 @@ use Rattle.std.specs.Prelude.{◌==◌, ◌&&◌, if◌then◌else◌, nat_eq}
 use Rattle.std.proofs.lemmas.Nat.{xor_comm, xor_of_8}
 use Rattle.std.proofs.lemmas.Bool.{cases_lt, eqb-true}
 use lib.Bits.{xor_assoc, xor_self, xor_zero_r}
-use Rattle.eid_aes.specs.Field.{times_x, product_of_bits, product, sub, inv_sub}
+use Rattle.eid_aes.specs.Field.{xtimes, product_of_bits, product, sub, inv_sub}
 use Rattle.eid_aes.specs.Cipher.{coefficient, sum_of_four, mixing, inv_mixing}
 use Rattle.eid_aes.specs.declared.tables.TheConstants.{SUBSTITUTION, INVERSE_SUBSTITUTION}
 use Rattle.eid_aes.proofs.TableFacts.{from, agree, SUBSTITUTION_at, INVERSE_SUBSTITUTION_at}
@@ -63,18 +63,18 @@ each_pair n m f g i j h below_n below_m =
 
 -- ---- products
 
-pub times_x-lt : (a : ℕ) → a < 256 → times_x a < 256
-unfolding times_x
-times_x-lt a h =
-    let e : times_x a % 256 ≡ times_x a = agree (λ b. times_x b % 256) times_x 256 a refl h in
+pub xtimes-lt : (a : ℕ) → a < 256 → xtimes a < 256
+unfolding xtimes
+xtimes-lt a h =
+    let e : xtimes a % 256 ≡ xtimes a = agree (λ b. xtimes b % 256) xtimes 256 a refl h in
     omega arith
 
-times_x-test : each 256 (λ a. each 256 (λ b. nat_eq (times_x (bit_xor a b)) (bit_xor (times_x a) (times_x b)))) ≡ true
-unfolding times_x
-times_x-test = refl
+xtimes-test : each 256 (λ a. each 256 (λ b. nat_eq (xtimes (bit_xor a b)) (bit_xor (xtimes a) (xtimes b)))) ≡ true
+unfolding xtimes
+xtimes-test = refl
 
-times_x-xor : (a b : ℕ) → a < 256 → b < 256 → times_x (bit_xor a b) ≡ bit_xor (times_x a) (times_x b)
-times_x-xor a b ha hb = each_pair 256 256 (λ x y. times_x (bit_xor x y)) (λ x y. bit_xor (times_x x) (times_x y)) a b times_x-test ha hb
+xtimes-xor : (a b : ℕ) → a < 256 → b < 256 → xtimes (bit_xor a b) ≡ bit_xor (xtimes a) (xtimes b)
+xtimes-xor a b ha hb = each_pair 256 256 (λ x y. xtimes (bit_xor x y)) (λ x y. bit_xor (xtimes x) (xtimes y)) a b xtimes-test ha hb
 
 chosen-xor : (b : Bool) (x y : ℕ) → (if b then bit_xor x y else 0) ≡ bit_xor (if b then x else 0) (if b then y else 0)
 chosen-xor true x y = refl
@@ -88,13 +88,13 @@ product_of_bits-xor : (n k a b : ℕ) → a < 256 → b < 256 → product_of_bit
 unfolding product_of_bits
 product_of_bits-xor zero k a b ha hb = refl
 product_of_bits-xor (suc n) k a b ha hb =
-    rw (times_x-xor a b ha hb, product_of_bits-xor n (k / 2) (times_x a) (times_x b) (times_x-lt a ha) (times_x-lt b hb), chosen-xor (k % 2 == 1) a b)
-    (xor_exchange (if k % 2 == 1 then a else 0) (if k % 2 == 1 then b else 0) (product_of_bits n (k / 2) (times_x a)) (product_of_bits n (k / 2) (times_x b)))
+    rw (xtimes-xor a b ha hb, product_of_bits-xor n (k / 2) (xtimes a) (xtimes b) (xtimes-lt a ha) (xtimes-lt b hb), chosen-xor (k % 2 == 1) a b)
+    (xor_exchange (if k % 2 == 1 then a else 0) (if k % 2 == 1 then b else 0) (product_of_bits n (k / 2) (xtimes a)) (product_of_bits n (k / 2) (xtimes b)))
 
 product_of_bits-lt : (n k a : ℕ) → a < 256 → product_of_bits n k a < 256
 unfolding product_of_bits
 product_of_bits-lt zero k a h = omega arith
-product_of_bits-lt (suc n) k a h = xor_of_8 _ _ (chosen-lt (k % 2 == 1) a h) (product_of_bits-lt n (k / 2) (times_x a) (times_x-lt a h))
+product_of_bits-lt (suc n) k a h = xor_of_8 _ _ (chosen-lt (k % 2 == 1) a h) (product_of_bits-lt n (k / 2) (xtimes a) (xtimes-lt a h))
 
 product-xor : (k a b : ℕ) → a < 256 → b < 256 → product k (bit_xor a b) ≡ bit_xor (product k a) (product k b)
 unfolding product
@@ -132,11 +132,11 @@ undoes_from row other h r j x hr hj hx =
     (each_at 4 (λ s. each 4 (λ i. each 256 (λ y. nat_eq (crossed row other s i y) (if s == i then y else 0)))) r h hr) hj hx
 
 mixing_test : each 4 (λ r. each 4 (λ j. each 256 (λ x. nat_eq (crossed inv_mixing mixing r j x) (if r == j then x else 0)))) ≡ true
-unfolding times_x product_of_bits product
+unfolding xtimes product_of_bits product
 mixing_test = refl
 
 inv_mixing_test : each 4 (λ r. each 4 (λ j. each 256 (λ x. nat_eq (crossed mixing inv_mixing r j x) (if r == j then x else 0)))) ≡ true
-unfolding times_x product_of_bits product
+unfolding xtimes product_of_bits product
 inv_mixing_test = refl
 
 pub inv_mixing_undoes : Undoes inv_mixing mixing

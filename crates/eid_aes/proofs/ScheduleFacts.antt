@@ -2,27 +2,27 @@
 use Rattle.std.proofs.Common.{◌≡◌, ℕ, zero, suc, ◌+◌, ◌-◌, ◌*◌, ◌/◌, ◌%◌, ◌<◌, ◌≤◌, List, [], ◌∷◌, ◌++◌, length, take, map, inl, inr, Bool, true, false, refl, sym, ap, ◌∙◌, get_or, slice_index, bit_xor, arith, length-append}
 use Rattle.std.proofs.lemmas.List.{take_all, take-take, get_or-take, take-append-le, get_or_append_left, get_or-append_right}
 use lib.Bits.{xor_zero_r}
-use Rattle.eid_aes.specs.Cipher.{words_of, rounds_of, key_of, IsSchedule, power_of_x, sub_word, rot_word, xor_word, turned_word, next_word, expanded, key_expansion, word_at}
-use Rattle.eid_aes.specs.Field.{sub, times_x}
-use Rattle.eid_aes.proofs.FieldFacts.{sub-lt, times_x-lt}
+use Rattle.eid_aes.specs.Cipher.{words_of, rounds_of, key_of, IsSchedule, power_of_x, sub_word, rot_word, xor_word, transformed_word, next_word, expanded, key_expansion, word_at}
+use Rattle.eid_aes.specs.Field.{sub, xtimes}
+use Rattle.eid_aes.proofs.FieldFacts.{sub-lt, xtimes-lt}
 use Rattle.std.specs.Prelude.{◌==◌, ◌&&◌, nat_lt, if◌then◌else◌}
 use Rattle.std.proofs.lemmas.Nat.{xor_of_8}
 use Rattle.std.proofs.lemmas.Bool.{cases_lt}
-use Rattle.eid_aes.specs.declared.cipher.TheConstants.{CONSTANTS}
+use Rattle.eid_aes.specs.declared.cipher.TheConstants.{RCON}
 use Rattle.eid_aes.proofs.TableFacts.{from, of_table}
 
-constants : map power_of_x (from 0 10) ≡ CONSTANTS
-unfolding power_of_x times_x
+constants : map power_of_x (from 0 10) ≡ RCON
+unfolding power_of_x xtimes
 constants = refl
 
-pub CONSTANTS_at : (i : ℕ) → i < 10 → get_or CONSTANTS i 0 ≡ power_of_x i
-CONSTANTS_at i h = of_table power_of_x CONSTANTS 10 i constants h
+pub RCON_at : (i : ℕ) → i < 10 → get_or RCON i 0 ≡ power_of_x i
+RCON_at i h = of_table power_of_x RCON 10 i constants h
 
 -- a word whose number is a multiple of the key's
-pub turned_word_first : (nk i k : ℕ) (t : List ℕ) → i % nk ≡ 0 → k ≡ power_of_x (i / nk - 1)
-    → turned_word nk i t ≡ bit_xor (sub (slice_index t 1)) k ∷ sub (slice_index t 2) ∷ sub (slice_index t 3) ∷ sub (slice_index t 0) ∷ []
-unfolding turned_word
-turned_word_first nk i k t first e = rw (first, ← e, xor_zero_r (sub (slice_index t 2)), xor_zero_r (sub (slice_index t 3)), xor_zero_r (sub (slice_index t 0))) refl
+pub transformed_word_first : (nk i k : ℕ) (t : List ℕ) → i % nk ≡ 0 → k ≡ power_of_x (i / nk - 1)
+    → transformed_word nk i t ≡ bit_xor (sub (slice_index t 1)) k ∷ sub (slice_index t 2) ∷ sub (slice_index t 3) ∷ sub (slice_index t 0) ∷ []
+unfolding transformed_word
+transformed_word_first nk i k t first e = rw (first, ← e, xor_zero_r (sub (slice_index t 2)), xor_zero_r (sub (slice_index t 3)), xor_zero_r (sub (slice_index t 0))) refl
 
 -- the next word reads only the words before it
 pub next_word-take : (nk i n : ℕ) (w : List ℕ) → 0 < nk → nk ≤ i → 4 * i ≤ n → next_word nk i (take n w) ≡ next_word nk i w
@@ -104,7 +104,7 @@ word_of_bytes a b c d ha hb hc hd (suc (suc (suc (suc i)))) = omega arith
 power_of_x-lt : (n : ℕ) → power_of_x n < 256
 unfolding power_of_x
 power_of_x-lt zero = omega arith
-power_of_x-lt (suc n) = times_x-lt (power_of_x n) (power_of_x-lt n)
+power_of_x-lt (suc n) = xtimes-lt (power_of_x n) (power_of_x-lt n)
 
 xor_word-bytes : (a b : List ℕ) → IsBytes a → IsBytes b → IsBytes (xor_word a b)
 xor_word-bytes a b ha hb = word_of_bytes _ _ _ _ (xor_of_8 _ _ (ha 0) (hb 0)) (xor_of_8 _ _ (ha 1) (hb 1)) (xor_of_8 _ _ (ha 2) (hb 2)) (xor_of_8 _ _ (ha 3) (hb 3))
@@ -123,9 +123,9 @@ chosen true d x y z hx hy hz = hx
 chosen false true x y z hx hy hz = hy
 chosen false false x y z hx hy hz = hz
 
-turned_word-bytes : (nk i : ℕ) (t : List ℕ) → IsBytes t → IsBytes (turned_word nk i t)
-unfolding turned_word
-turned_word-bytes nk i t h =
+transformed_word-bytes : (nk i : ℕ) (t : List ℕ) → IsBytes t → IsBytes (transformed_word nk i t)
+unfolding transformed_word
+transformed_word-bytes nk i t h =
     chosen (i % nk == 0) (nat_lt 6 nk && (i % nk == 4)) (xor_word (sub_word (rot_word t)) (power_of_x (i / nk - 1) ∷ 0 ∷ 0 ∷ 0 ∷ [])) (sub_word t) t
     (xor_word-bytes (sub_word (rot_word t)) (power_of_x (i / nk - 1) ∷ 0 ∷ 0 ∷ 0 ∷ []) (sub_word-bytes (rot_word t) (rot_word-bytes t h))
     (word_of_bytes (power_of_x (i / nk - 1)) 0 0 0 (power_of_x-lt (i / nk - 1)) (omega arith) (omega arith) (omega arith)))
@@ -133,7 +133,7 @@ turned_word-bytes nk i t h =
 
 next_word-bytes : (nk i : ℕ) (w : List ℕ) → IsBytes w → IsBytes (next_word nk i w)
 unfolding next_word
-next_word-bytes nk i w h = xor_word-bytes (word_at w (i - nk)) (turned_word nk i (word_at w (i - 1))) (word_at-bytes w (i - nk) h) (turned_word-bytes nk i (word_at w (i - 1)) (word_at-bytes w (i - 1) h))
+next_word-bytes nk i w h = xor_word-bytes (word_at w (i - nk)) (transformed_word nk i (word_at w (i - 1))) (word_at-bytes w (i - nk) h) (transformed_word-bytes nk i (word_at w (i - 1)) (word_at-bytes w (i - 1) h))
 
 append-bytes : (a b : List ℕ) → IsBytes a → IsBytes b → IsBytes (a ++ b)
 append-bytes a b ha hb i = elim (cases_lt i (length a)) [

@@ -1,7 +1,7 @@
 -- The tables have the definition's value at each byte, and the products that the columns need are sums of
 -- products with x.
 use Rattle.std.proofs.Common.{◌≡◌, ℕ, zero, suc, ◌+◌, ◌<◌, List, [], ◌∷◌, map, refl, sym, ap, ◌∙◌, get_or, bit_xor, arith}
-use Rattle.eid_aes.specs.Field.{times_x, product_of_bits, product, inverse_below, inverse, affine, affine_undone, sub, inv_sub}
+use Rattle.eid_aes.specs.Field.{xtimes, product_of_bits, product, inverse_below, inverse, affine, affine_undone, sub, inv_sub}
 use Rattle.eid_aes.specs.declared.tables.TheConstants.{SUBSTITUTION, INVERSE_SUBSTITUTION}
 
 -- the numbers from m on, n of them
@@ -23,11 +23,11 @@ pub agree : (f g : ℕ → ℕ) (n i : ℕ) → map f (from 0 n) ≡ map g (from
 agree f g n i e h = sym (of_table f (map g (from 0 n)) n i e h) ∙ of_table g (map g (from 0 n)) n i refl h
 
 sub_table : map sub (from 0 256) ≡ SUBSTITUTION
-unfolding times_x product_of_bits product inverse_below inverse affine sub
+unfolding xtimes product_of_bits product inverse_below inverse affine sub
 sub_table = refl
 
 inv_sub_table : map inv_sub (from 0 256) ≡ INVERSE_SUBSTITUTION
-unfolding times_x product_of_bits product inverse_below inverse affine_undone inv_sub
+unfolding xtimes product_of_bits product inverse_below inverse affine_undone inv_sub
 inv_sub_table = refl
 
 pub SUBSTITUTION_at : (a : ℕ) → a < 256 → get_or SUBSTITUTION a 0 ≡ sub a
@@ -38,18 +38,18 @@ INVERSE_SUBSTITUTION_at a h = of_table inv_sub INVERSE_SUBSTITUTION 256 a inv_su
 
 -- ---- products
 
-pub product_9 : (a : ℕ) → a < 256 → product 9 a ≡ bit_xor (times_x (times_x (times_x a))) a
-unfolding times_x product_of_bits product
-product_9 a h = agree (product 9) (λ b. bit_xor (times_x (times_x (times_x b))) b) 256 a refl h
+pub product_9 : (a : ℕ) → a < 256 → product 9 a ≡ bit_xor (xtimes (xtimes (xtimes a))) a
+unfolding xtimes product_of_bits product
+product_9 a h = agree (product 9) (λ b. bit_xor (xtimes (xtimes (xtimes b))) b) 256 a refl h
 
-pub product_11 : (a : ℕ) → a < 256 → product 11 a ≡ bit_xor (bit_xor (times_x (times_x (times_x a))) (times_x a)) a
-unfolding times_x product_of_bits product
-product_11 a h = agree (product 11) (λ b. bit_xor (bit_xor (times_x (times_x (times_x b))) (times_x b)) b) 256 a refl h
+pub product_11 : (a : ℕ) → a < 256 → product 11 a ≡ bit_xor (bit_xor (xtimes (xtimes (xtimes a))) (xtimes a)) a
+unfolding xtimes product_of_bits product
+product_11 a h = agree (product 11) (λ b. bit_xor (bit_xor (xtimes (xtimes (xtimes b))) (xtimes b)) b) 256 a refl h
 
-pub product_13 : (a : ℕ) → a < 256 → product 13 a ≡ bit_xor (bit_xor (times_x (times_x (times_x a))) (times_x (times_x a))) a
-unfolding times_x product_of_bits product
-product_13 a h = agree (product 13) (λ b. bit_xor (bit_xor (times_x (times_x (times_x b))) (times_x (times_x b))) b) 256 a refl h
+pub product_13 : (a : ℕ) → a < 256 → product 13 a ≡ bit_xor (bit_xor (xtimes (xtimes (xtimes a))) (xtimes (xtimes a))) a
+unfolding xtimes product_of_bits product
+product_13 a h = agree (product 13) (λ b. bit_xor (bit_xor (xtimes (xtimes (xtimes b))) (xtimes (xtimes b))) b) 256 a refl h
 
-pub product_14 : (a : ℕ) → a < 256 → product 14 a ≡ bit_xor (bit_xor (times_x (times_x (times_x a))) (times_x (times_x a))) (times_x a)
-unfolding times_x product_of_bits product
-product_14 a h = agree (product 14) (λ b. bit_xor (bit_xor (times_x (times_x (times_x b))) (times_x (times_x b))) (times_x b)) 256 a refl h
+pub product_14 : (a : ℕ) → a < 256 → product 14 a ≡ bit_xor (bit_xor (xtimes (xtimes (xtimes a))) (xtimes (xtimes a))) (xtimes a)
+unfolding xtimes product_of_bits product
+product_14 a h = agree (product 14) (λ b. bit_xor (bit_xor (xtimes (xtimes (xtimes b))) (xtimes (xtimes b))) (xtimes b)) 256 a refl h

@@ -1,7 +1,7 @@
 -- The block cipher AES (FIPS 197, section 5). A block and each state is a list of 16 bytes, column by column:
 -- the byte of row r and column c stands at place r + 4 * c.
 use Rattle.std.specs.Prelude.{ℕ, zero, suc, ◌+◌, ◌-◌, ◌*◌, ◌/◌, ◌%◌, ◌==◌, ◌&&◌, ◌≡◌, ◌<◌, ◌≤◌, nat_lt, List, [], ◌∷◌, ◌++◌, length, take, map, slice_index, bit_xor, if◌then◌else◌}
-use Rattle.eid_aes.specs.Field.{times_x, product, sub, inv_sub}
+use Rattle.eid_aes.specs.Field.{xtimes, product, sub, inv_sub}
 
 -- the places of a block
 abbrev pub places : List ℕ
@@ -79,17 +79,17 @@ rounds_of key = words_of key + 6
 -- x to the n
 unfoldable pub power_of_x : ℕ → ℕ
 power_of_x zero = 1
-power_of_x (suc n) = times_x (power_of_x n)
+power_of_x (suc n) = xtimes (power_of_x n)
 
 -- word i of an expanded key of bytes
 abbrev pub word_at : List ℕ → ℕ → List ℕ
 word_at w i = slice_index w (4 * i) ∷ slice_index w (4 * i + 1) ∷ slice_index w (4 * i + 2) ∷ slice_index w (4 * i + 3) ∷ []
 
--- the four bytes substituted
+-- SUBWORD: the four bytes substituted
 abbrev pub sub_word : List ℕ → List ℕ
 sub_word t = map (λ j. sub (slice_index t j)) (0 ∷ 1 ∷ 2 ∷ 3 ∷ [])
 
--- the four bytes moved one place to the left
+-- ROTWORD: the four bytes moved one place to the left
 abbrev pub rot_word : List ℕ → List ℕ
 rot_word t = slice_index t 1 ∷ slice_index t 2 ∷ slice_index t 3 ∷ slice_index t 0 ∷ []
 
@@ -97,16 +97,16 @@ rot_word t = slice_index t 1 ∷ slice_index t 2 ∷ slice_index t 3 ∷ slice_i
 abbrev pub xor_word : List ℕ → List ℕ → List ℕ
 xor_word a b = map (λ j. bit_xor (slice_index a j) (slice_index b j)) (0 ∷ 1 ∷ 2 ∷ 3 ∷ [])
 
--- what word i of a key of nk words is added to, from the word t before it
-unfoldable pub turned_word : ℕ → ℕ → List ℕ → List ℕ
-turned_word nk i t =
+-- what word i of a key of nk words is added to: the word t before it, transformed where its place asks for that
+unfoldable pub transformed_word : ℕ → ℕ → List ℕ → List ℕ
+transformed_word nk i t =
     if i % nk == 0 then xor_word (sub_word (rot_word t)) (power_of_x (i / nk - 1) ∷ 0 ∷ 0 ∷ 0 ∷ [])
     else if nat_lt 6 nk && (i % nk == 4) then sub_word t
     else t
 
 -- word i of the expanded key, from the words before it
 unfoldable pub next_word : ℕ → ℕ → List ℕ → List ℕ
-next_word nk i w = xor_word (word_at w (i - nk)) (turned_word nk i (word_at w (i - 1)))
+next_word nk i w = xor_word (word_at w (i - nk)) (transformed_word nk i (word_at w (i - 1)))
 
 -- the key with n words more
 unfoldable pub expanded : List ℕ → ℕ → List ℕ

@@ -1,4 +1,5 @@
--- A state as four columns, each a number of 32 bits with the byte of row 0 lowest.
+-- Inside: a state as four columns, each a number of 32 bits with the byte of row 0 lowest. Only private functions
+-- cite these.
 use Rattle.std.specs.Prelude.{ℕ, ◌/◌, ◌%◌, List, [], ◌∷◌, map, slice_index, bit_xor}
 use Rattle.std.specs.Int.{byte_at}
 use Rattle.eid_aes.specs.Field.{product, sub}

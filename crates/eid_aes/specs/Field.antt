@@ -3,14 +3,14 @@
 use Rattle.std.specs.Prelude.{ℕ, zero, suc, ◌*◌, ◌/◌, ◌%◌, ◌==◌, nat_lt, bit_xor, if◌then◌else◌}
 use Rattle.std.specs.Int.{w8, rotate_left}
 
--- the product with x, modulo x^8 + x^4 + x^3 + x + 1
-unfoldable pub times_x : ℕ → ℕ
-times_x a = bit_xor (2 * a % 256) (if nat_lt a 128 then 0 else 0x1b)
+-- XTIMES, the product with x, modulo x^8 + x^4 + x^3 + x + 1
+unfoldable pub xtimes : ℕ → ℕ
+xtimes a = bit_xor (2 * a % 256) (if nat_lt a 128 then 0 else 0x1b)
 
 -- the product of the polynomial of a's n lowest bits and b
 unfoldable pub product_of_bits : ℕ → ℕ → ℕ → ℕ
 product_of_bits zero a b = 0
-product_of_bits (suc n) a b = bit_xor (if a % 2 == 1 then b else 0) (product_of_bits n (a / 2) (times_x b))
+product_of_bits (suc n) a b = bit_xor (if a % 2 == 1 then b else 0) (product_of_bits n (a / 2) (xtimes b))
 
 -- the product of two elements
 unfoldable pub product : ℕ → ℕ → ℕ

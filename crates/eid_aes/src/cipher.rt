@@ -1,10 +1,11 @@
 //! The cipher and its inverse (FIPS 197, 5.1 to 5.3).
 
 ghost use Rattle.std.specs.Prelude.{◌≡◌, ℕ, ◌+◌, ◌-◌, ◌*◌, ◌/◌, ◌%◌, ◌<◌, ◌≤◌, List, ◌++◌, length, take, drop, slice_index, slice_set};
-ghost use Rattle.eid_aes.specs.Cipher.{word_at, turned_word, next_word, expanded, key_expansion, key_of, IsSchedule, IsBlock, cipher, inv_cipher};
+ghost use Rattle.eid_aes.specs.Cipher.{word_at, sub_word, transformed_word, next_word, expanded, key_expansion, key_of, IsSchedule, IsBlock, cipher, inv_cipher};
+ghost use Rattle.eid_aes.specs.Words.{rotated_word};
 ghost use Rattle.eid_aes.specs.Cbc.{AreBlocks, cbc_encrypted, cbc_decrypted};
 
-use crate::columns::{added, after_last_round, after_round, block_of, columns_of};
+use crate::columns::{self, after_last_round, after_round, block_of, columns_of};
 use crate::steps::{
     Block, add_block, add_round_key, inv_mix_columns, inv_shift_rows, inv_sub_bytes, sub,
 };
@@ -43,7 +44,7 @@ impl<const ROUNDS: usize> Aes<ROUNDS> {
     pub fn encrypt(&self, block: &mut [u8; 16])
         ensures { block.new ≡ cipher self.now block.old }
     {
-        let mut s = added(columns_of(block), &self.schedule, 0);
+        let mut s = columns::add_round_key(columns_of(block), &self.schedule, 0);
         for round in 1..ROUNDS {
             let next = after_round(s, &self.schedule, round);
             s = next;
@@ -118,8 +119,8 @@ fn block_at(bytes: &[u8], at: usize) -> Block
     block
 }
 
-// The round constants: the powers of x.
-const CONSTANTS: [u8; 10] = [0x01, 0x02, 0x04, 0x08, 0x10, 0x20, 0x40, 0x80, 0x1b, 0x36];
+// The round constants: the powers of x (FIPS 197, 5.2).
+const RCON: [u8; 10] = [0x01, 0x02, 0x04, 0x08, 0x10, 0x20, 0x40, 0x80, 0x1b, 0x36];
 
 // The key expansion for a number of rounds, and zeros after it.
 fn expand(key: &[u8], rounds: usize) -> [u8; 240]
@@ -147,7 +148,7 @@ fn write_at(schedule: &mut [u8; 240], at: usize, bytes: &[u8])
     schedule[at..at + bytes.len()].copy_from_slice(bytes);
 }
 
-// Word `i` of the expansion, from the words before it.
+// Word `i` of the expansion, from the words before it (FIPS 197, 5.2).
 #[tactic(auto, unfolding(crate::specs::Cipher::next_word))]
 fn next_word(schedule: &[u8; 240], words: usize, i: usize) -> [u8; 4]
     requires least { 4 ≤ words }
@@ -157,7 +158,7 @@ fn next_word(schedule: &[u8; 240], words: usize, i: usize) -> [u8; 4]
     ensures { result ≡ next_word words i schedule.now }
 {
     let before = 4 * (i - words);
-    let [a, b, c, d] = turned_word(schedule, words, i);
+    let [a, b, c, d] = transformed_word(schedule, words, i);
     [
         schedule[before] ^ a,
         schedule[before + 1] ^ b,
@@ -166,27 +167,43 @@ fn next_word(schedule: &[u8; 240], words: usize, i: usize) -> [u8; 4]
     ]
 }
 
-// What word `i` is added to, from the word before it.
-#[tactic(auto, unfolding(crate::specs::Cipher::turned_word))]
-fn turned_word(schedule: &[u8; 240], words: usize, i: usize) -> [u8; 4]
+// SUBWORD (FIPS 197, 5.2).
+fn sub_word(word: [u8; 4]) -> [u8; 4]
+    ensures { result ≡ sub_word word }
+{
+    let [a, b, c, d] = word;
+    [sub(a), sub(b), sub(c), sub(d)]
+}
+
+// SUBWORD of ROTWORD of a word, and a round constant added (FIPS 197, 5.2).
+fn rotated_word(word: [u8; 4], constant: u8) -> [u8; 4]
+    ensures { result ≡ rotated_word word constant }
+{
+    let [a, b, c, d] = word;
+    [sub(b) ^ constant, sub(c), sub(d), sub(a)]
+}
+
+// What word `i` is added to: the word before it, transformed where its place asks for that.
+#[tactic(auto, unfolding(crate::specs::Cipher::transformed_word))]
+fn transformed_word(schedule: &[u8; 240], words: usize, i: usize) -> [u8; 4]
     requires least { 4 ≤ words }
     requires from { words ≤ i }
     requires below { i < 60 }
     requires constants { i / words ≤ 10 }
-    ensures { result ≡ turned_word words i (word_at schedule.now (i - 1)) }
+    ensures { result ≡ transformed_word words i (word_at schedule.now (i - 1)) }
 {
     let at = 4 * (i - 1);
-    let [a, b, c, d] = [
+    let before = [
         schedule[at],
         schedule[at + 1],
         schedule[at + 2],
         schedule[at + 3],
     ];
     if i % words == 0 {
-        return [sub(b) ^ CONSTANTS[i / words - 1], sub(c), sub(d), sub(a)];
+        return rotated_word(before, RCON[i / words - 1]);
     }
     if words > 6 && i % words == 4 {
-        return [sub(a), sub(b), sub(c), sub(d)];
+        return sub_word(before);
     }
-    [a, b, c, d]
+    before
 }

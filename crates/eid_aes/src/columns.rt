@@ -48,9 +48,9 @@ pub fn block_of(s: Columns) -> Block
     ]
 }
 
-/// Adds round key `round` of an expanded key.
+/// ADDROUNDKEY with round key `round` of an expanded key (FIPS 197, 5.1.4).
 #[inline(always)]
-pub fn added(s: Columns, schedule: &[u8; 240], round: usize) -> Columns
+pub fn add_round_key(s: Columns, schedule: &[u8; 240], round: usize) -> Columns
     requires { round < 15 }
     ensures { state_of result ≡ add_round_key schedule.now round (state_of s) }
 {

@@ -5,7 +5,5 @@ mod cipher;
 mod columns;
 mod steps;
 mod tables;
-#[cfg(test)]
-mod tests;
 
 pub use cipher::Aes;

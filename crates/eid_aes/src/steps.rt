@@ -1,7 +1,7 @@
 //! The steps of the inverse cipher's rounds (FIPS 197, 5.3). A block's byte of row r and column c stands at r + 4 * c.
 
 ghost use Rattle.std.specs.Prelude.{◌≡◌, ℕ, ◌+◌, ◌*◌, ◌<◌, ◌≤◌, List, [], ◌∷◌, length};
-ghost use Rattle.eid_aes.specs.Field.{times_x, product, sub, inv_sub};
+ghost use Rattle.eid_aes.specs.Field.{xtimes, product, sub, inv_sub};
 ghost use Rattle.eid_aes.specs.Cipher.{sum_of_four, inv_sub_bytes, inv_shift_rows, inv_mix_columns, xor_block, add_round_key};
 
 use crate::tables::{INVERSE_SUBSTITUTION, SUBSTITUTION};
@@ -9,10 +9,10 @@ use crate::tables::{INVERSE_SUBSTITUTION, SUBSTITUTION};
 /// A block, and each state of it between two steps.
 pub type Block = [u8; 16];
 
-/// The product with x in the field.
-#[tactic(auto, unfolding(crate::specs::Field::times_x))]
-pub fn times_x(byte: u8) -> u8
-    ensures { result ≡ times_x byte }
+/// XTIMES, the product with x in the field (FIPS 197, 4.2).
+#[tactic(auto, unfolding(crate::specs::Field::xtimes))]
+pub fn xtimes(byte: u8) -> u8
+    ensures { result ≡ xtimes byte }
 {
     let doubled = byte.wrapping_mul(2);
     if byte < 0x80 { doubled } else { doubled ^ 0x1b }
@@ -58,9 +58,9 @@ pub fn inv_shift_rows(s: &mut Block)
 fn inv_products(byte: u8) -> [u8; 4]
     ensures { result ≡ product 0x0e byte ∷ product 0x0b byte ∷ product 0x0d byte ∷ product 0x09 byte ∷ [] }
 {
-    let twice = times_x(byte);
-    let four_times = times_x(twice);
-    let eight_times = times_x(four_times);
+    let twice = xtimes(byte);
+    let four_times = xtimes(twice);
+    let eight_times = xtimes(four_times);
     [
         eight_times ^ four_times ^ twice,
         eight_times ^ twice ^ byte,
@@ -112,7 +112,7 @@ pub fn add_block(s: &mut Block, other: &[u8])
     }
 }
 
-/// Adds round key `round` of an expanded key.
+/// ADDROUNDKEY with round key `round` of an expanded key (FIPS 197, 5.1.4).
 pub fn add_round_key(s: &mut Block, schedule: &[u8; 240], round: usize)
     requires { round < 15 }
     ensures { s.new ≡ add_round_key schedule.now round s.old }

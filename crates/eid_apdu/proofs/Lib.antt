@@ -1,3 +1,4 @@
 pub mod OneCommand
 pub mod Tails
 pub mod Written
+pub mod OneReply

@@ -4,7 +4,8 @@ use Rattle.std.specs.Prelude.{nat_lt, if◌then◌else◌}
 use Rattle.std.proofs.lemmas.List.{append-nil}
 use Rattle.std.proofs.lemmas.Bool.Decides.{nat_tests}
 use Rattle.eid_apdu.specs.Command.{PlainCommand, tail, short_le, extended_le, two_bytes, Carries, Spells}
-use Rattle.eid_apdu.specs.Writing.{is_short, case_of, case_written, written, lc_bytes, le_bytes}
+use Rattle.eid_apdu.specs.Writing.{is_short, case_of, case_written, written}
+use Rattle.eid_apdu.specs.Fields.{lc_bytes, le_bytes}
 
 empty : (body : List ℕ) → nat_lt 0 (length body) ≡ false → body ≡ []
 empty [] none = refl

@@ -1,3 +1,4 @@
 pub mod Command
 pub mod Writing
+pub mod Fields
 pub mod Answer

@@ -1,7 +1,7 @@
 -- The bytes that a command is written as (ISO/IEC 7816-4): of its spellings the one with short length
 -- fields, where they can say its lengths, else the one with extended fields.
-use Rattle.std.specs.Prelude.{ℕ, Bool, true, false, ◌&&◌, nat_lt, nat_le, List, [], ◌∷◌, length, if◌then◌else◌}
-use Rattle.eid_apdu.specs.Command.{PlainCommand, Case, Bare, ShortLe, ShortBody, ShortBodyLe, ExtendedLe, ExtendedBody, ExtendedBodyLe, tail, short_le, extended_le, two_bytes}
+use Rattle.std.specs.Prelude.{ℕ, Bool, true, false, ◌&&◌, nat_lt, nat_le, List, ◌∷◌, length}
+use Rattle.eid_apdu.specs.Command.{PlainCommand, Case, Bare, ShortLe, ShortBody, ShortBodyLe, ExtendedLe, ExtendedBody, ExtendedBodyLe, tail}
 
 -- short length fields can say the lengths
 abbrev pub is_short : List ℕ → ℕ → Bool
@@ -23,16 +23,3 @@ case_written body ne = case_of (is_short body ne) (nat_lt 0 (length body)) (nat_
 -- the bytes of a command
 unfoldable pub written : PlainCommand → List ℕ
 written c = c.cla ∷ c.ins ∷ c.p1 ∷ c.p2 ∷ tail (case_written c.body c.ne) c.body c.ne
-
--- the field Lc for a body of this size, or of none
-abbrev pub lc_bytes : Bool → ℕ → List ℕ
-lc_bytes short size = if nat_lt 0 size then (if short then size ∷ [] else 0 ∷ two_bytes size) else []
-
--- the field Le behind a body of this size, or of none
-abbrev pub le_bytes : Bool → ℕ → ℕ → List ℕ
-le_bytes short size ne =
-    if nat_lt 0 ne then
-    (if short then short_le ne ∷ []
-    else if nat_lt 0 size then two_bytes (extended_le ne)
-    else 0 ∷ two_bytes (extended_le ne))
-    else []

@@ -3,7 +3,7 @@ ghost use Rattle.std.specs.Prelude.{◌≡◌, ◌<◌, ℕ, List, [], ◌∷◌
 ghost use Rattle.eid_apdu.specs.Command.{PlainCommand, plain_command, short_le, extended_le, two_bytes, IsShortLe, IsExtendedLe, IsTail, Spells};
 
 /// The bytes are no command, or no reply.
-#[derive(Clone, Copy, Debug, PartialEq, Eq, Hash)]
+#[derive(Clone, Copy)]
 pub struct BadApdu;
 
 /// A command APDU (ISO/IEC 7816-4).
@@ -23,8 +23,8 @@ pub struct Command<'a> {
     pub ne: u32,
 }
 
-/// The expected length that a byte Le stands for: 00 is 256.
-fn expected(le: u8) -> u32
+/// The expected length, in bytes, that a field Le of one byte stands for: 00 is 256 (ISO/IEC 7816-4).
+pub fn short_expected(le: u8) -> u32
     ensures value { short_le result ≡ le }
     ensures range { IsShortLe result }
 {
@@ -35,11 +35,12 @@ fn expected(le: u8) -> u32
 fn number(high: u8, low: u8) -> u16
     ensures { two_bytes result ≡ high ∷ low ∷ [] }
 {
-    u16::from(high) * 256 + u16::from(low)
+    u16::from_be_bytes([high, low])
 }
 
-/// The expected length that two bytes Le stand for: 0000 is 65,536.
-fn extended_expected(high: u8, low: u8) -> u32
+/// The expected length, in bytes, that a field Le of two bytes stands for, the high one first: 0000 is
+/// 65,536 (ISO/IEC 7816-4).
+pub fn extended_expected(high: u8, low: u8) -> u32
     ensures value { two_bytes (extended_le result) ≡ high ∷ low ∷ [] }
     ensures range { IsExtendedLe result }
 {
@@ -62,7 +63,7 @@ fn read_body(lc: u8, bytes: &[u8]) -> Result<(&[u8], u32), BadApdu>
     let (body, after) = bytes.split_at(count);
     match after {
         [] => Ok((body, 0)),
-        [le] => Ok((body, expected(*le))),
+        [le] => Ok((body, short_expected(*le))),
         _ => Err(BadApdu),
     }
 }
@@ -106,7 +107,7 @@ fn read_tail(bytes: &[u8]) -> Result<(&[u8], u32), BadApdu>
 {
     match bytes {
         [] => Ok((&[], 0)),
-        [le] => Ok((&[], expected(*le))),
+        [le] => Ok((&[], short_expected(*le))),
         [0, rest @ ..] => read_extended(rest),
         [lc, rest @ ..] => read_body(*lc, rest),
     }

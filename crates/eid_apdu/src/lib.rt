@@ -3,10 +3,10 @@
 
 mod command;
 mod reply;
-#[cfg(test)]
-mod tests;
 mod writing;
 
-pub use command::{BadApdu, Command, law_one_command, read_command};
-pub use reply::{MAX_CONTENT, Reply, read_reply, write_reply};
+pub use command::{
+    BadApdu, Command, extended_expected, law_one_command, read_command, short_expected,
+};
+pub use reply::{MAX_CONTENT, Reply, law_one_reply, read_reply, write_reply};
 pub use writing::{law_written_is_read, write_command};

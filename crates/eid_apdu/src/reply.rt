@@ -59,3 +59,8 @@ pub fn read_reply(bytes: &[u8]) -> Result<Reply, BadApdu>
         status: Status(u16::from_be_bytes([*sw1, *sw2])),
     })
 }
+
+/// Bytes are those of at most one reply.
+pub fn law_one_reply()
+    ensures { (r s : PlainReply) → spelled r ≡ spelled s → IsReply r → IsReply s → r ≡ s }
+{}

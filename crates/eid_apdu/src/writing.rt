@@ -2,6 +2,7 @@
 ghost use Rattle.std.specs.Prelude.{◌≡◌, ◌+◌, ◌≤◌, ◌++◌, ◌↔◌, true, ℕ, List, [], ◌∷◌, length, OnOk, OnErr, IsOk};
 ghost use Rattle.arrayvec.specs.ArrayVec.{array_vec_len};
 ghost use Rattle.eid_apdu.specs.Command.{PlainCommand, plain_command, Spells};
+ghost use Rattle.eid_apdu.specs.Fields.{lc_bytes, le_bytes};
 ghost use Rattle.eid_apdu.specs.Writing as writing;
 
 use crate::command::Command;
@@ -19,7 +20,7 @@ fn is_short(c: &Command<'_>) -> bool
 fn lc_field(size: usize, is_short: bool) -> ArrayVec<u8, 3>
     requires size { size ≤ 65535 }
     requires short { is_short ≡ true → size ≤ 255 }
-    ensures { result.items ≡ writing.lc_bytes is_short size }
+    ensures { result.items ≡ lc_bytes is_short size }
 {
     let mut field = ArrayVec::new();
     if size == 0 {
@@ -29,9 +30,10 @@ fn lc_field(size: usize, is_short: bool) -> ArrayVec<u8, 3>
         field.push(size as u8);
         return field;
     }
+    let [high, low] = (size as u16).to_be_bytes();
     field.push(0);
-    field.push((size / 256) as u8);
-    field.push((size % 256) as u8);
+    field.push(high);
+    field.push(low);
     field
 }
 
@@ -39,7 +41,7 @@ fn lc_field(size: usize, is_short: bool) -> ArrayVec<u8, 3>
 /// length. Two bytes that follow no field Lc have a byte 00 before them.
 fn le_field(size: usize, ne: u32, is_short: bool) -> ArrayVec<u8, 3>
     requires { ne ≤ 65536 }
-    ensures { result.items ≡ writing.le_bytes is_short size ne }
+    ensures { result.items ≡ le_bytes is_short size ne }
 {
     let mut field = ArrayVec::new();
     if ne == 0 {
@@ -49,11 +51,12 @@ fn le_field(size: usize, ne: u32, is_short: bool) -> ArrayVec<u8, 3>
         field.push((ne % 256) as u8);
         return field;
     }
+    let [high, low] = ((ne % 65_536) as u16).to_be_bytes();
     if size == 0 {
         field.push(0);
     }
-    field.push((ne % 65_536 / 256) as u8);
-    field.push((ne % 256) as u8);
+    field.push(high);
+    field.push(low);
     field
 }
 
@@ -61,7 +64,7 @@ fn le_field(size: usize, ne: u32, is_short: bool) -> ArrayVec<u8, 3>
 fn before_body(c: &Command<'_>, is_short: bool) -> ArrayVec<u8, 7>
     requires size { length c.now.body.now ≤ 65535 }
     requires short { is_short ≡ true → length c.now.body.now ≤ 255 }
-    ensures { result.items ≡ c.now.cla ∷ c.now.ins ∷ c.now.p1 ∷ c.now.p2 ∷ writing.lc_bytes is_short (length c.now.body.now) }
+    ensures { result.items ≡ c.now.cla ∷ c.now.ins ∷ c.now.p1 ∷ c.now.p2 ∷ lc_bytes is_short (length c.now.body.now) }
 {
     let field = lc_field(c.body.len(), is_short);
     let mut before = ArrayVec::new();

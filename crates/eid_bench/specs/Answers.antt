@@ -8,6 +8,6 @@ use Rattle.eid_cmac.specs.Cmac.{zeros, cmac}
 abbrev pub cbc_answer : List ℕ → ℕ → ℕ → List ℕ
 cbc_answer key fill n = encode_lower (drop (n / 16 * 16 - 16) (cbc_encrypted key zeros (replicate (n / 16 * 16) fill)))
 
--- the code of n bytes, as hexadecimal digits
+-- the MAC of n bytes, as hexadecimal digits
 abbrev pub cmac_answer : List ℕ → ℕ → ℕ → List ℕ
 cmac_answer key fill n = encode_lower (cmac key (replicate n fill))

@@ -1,12 +1,12 @@
 //! Runs a cipher over many bytes, so that it can be timed. `cbc N` encrypts N bytes by AES-128 in
 //! cipher block chaining, cut down to whole blocks, and prints the last block; `cmac N` prints the
-//! code of N bytes; `both N` does the one and then the other. `pace N` does N times the work of a PACE
+//! MAC of N bytes; `both N` does the one and then the other. `pace N` does N times the work of a PACE
 //! in its ciphers and digests alone, and prints what it comes to.
 #![tactic(auto)]
 
 ghost use Rattle.std.specs.Prelude.{◌≡◌, IfOk, string_bytes};
 ghost use Rattle.eid_bench.specs.Answers.{cbc_answer, cmac_answer};
-ghost use Rattle.eid_bench.specs.Paces.{drawn, code_of, nonce_of, keyed, pace_work, pace_answer};
+ghost use Rattle.eid_bench.specs.Paces.{drawn, nonce_of, sent, pace_work, pace_answer};
 
 use anyhow::Context;
 use eid_aes::Aes;
@@ -21,6 +21,16 @@ const KEY: [u8; 16] = [
 
 const FILL: u8 = 0x5a;
 
+/// How many bytes a token is made over: the protocol and a point, as a data object.
+const TOKEN_SIZE: usize = 82;
+
+/// The numbers of the keys that are derived.
+const ENCRYPTION: u32 = 1;
+
+const MAC: u32 = 2;
+
+const PASSWORD: u32 = 3;
+
 // The last block of so many bytes, cut down to whole blocks, after they are encrypted.
 fn cbc(alloc: Global, size: usize) -> anyhow::Result<String>
     ensures { IfOk result (λ text. string_bytes text ≡ cbc_answer KEY FILL size) }
@@ -33,14 +43,14 @@ fn cbc(alloc: Global, size: usize) -> anyhow::Result<String>
     Ok(hex::encode(alloc, &bytes[last..])?)
 }
 
-// The code of so many bytes.
+// The MAC of so many bytes.
 fn cmac(alloc: Global, size: usize) -> anyhow::Result<String>
     ensures { IfOk result (λ text. string_bytes text ≡ cmac_answer KEY FILL size) }
 {
     let bytes = vec![in alloc; FILL; size]?;
     let key = Aes::<10>::new(&KEY);
-    let code = eid_cmac::cmac(&key, &bytes, &[], &[]);
-    Ok(hex::encode(alloc, code.as_slice())?)
+    let mac = eid_cmac::cmac(&key, &bytes, &[], &[]);
+    Ok(hex::encode(alloc, mac.as_slice())?)
 }
 
 // A random block, which the model coprocessor takes from a digest.
@@ -52,35 +62,30 @@ fn drawn(seed: &[u8]) -> [u8; 32]
     hasher.finalize()
 }
 
-// The code of as many bytes as a token is made over, under the key of a secret.
-fn code_of(secret: &[u8; 32], bytes: &[u8; 82]) -> [u8; 16]
-    ensures { result ≡ code_of secret.now bytes.now }
-{
-    let key = Aes::<10>::new(&derive(secret, &[], 2));
-    eid_cmac::cmac(&key, bytes, &[], &[])
-}
-
 // The nonce in a random block, encrypted under the key of a password.
 fn nonce_of(block: &[u8; 32]) -> [u8; 16]
     ensures { result ≡ nonce_of block.now }
 {
     let mut nonce = [0; 16];
     nonce.copy_from_slice(&block[..16]);
-    Aes::<10>::new(&derive(&KEY, &[], 3)).cbc_encrypt(&[0; 16], &mut nonce);
+    Aes::<10>::new(&derive(&KEY, &[], PASSWORD)).cbc_encrypt(&[0; 16], &mut nonce);
     nonce
 }
 
-// A block under a key of the channel.
-fn keyed(first: &[u8; 16], second: &[u8; 16], block: &[u8; 16], which: u32) -> [u8; 16]
-    ensures { result ≡ keyed first.now second.now block.now which }
+// What is sent at the end: two MACs under one key of the secret, over as many bytes as tokens are, the one
+// encrypted from the other on under the secret's key of encryption.
+fn sent(nonce: &[u8; 16], shared: &[u8; 32]) -> [u8; 16]
+    ensures { result ≡ sent nonce.now shared.now }
 {
-    let mut out = *block;
-    Aes::<10>::new(&derive(first, second, which)).encrypt(&mut out);
-    out
+    let key = Aes::<10>::new(&derive(shared, &[], MAC));
+    let terminal = eid_cmac::cmac(&key, &[FILL; TOKEN_SIZE - 16], nonce, &[]);
+    let mut chip = eid_cmac::cmac(&key, &[FILL; TOKEN_SIZE], &[], &[]);
+    Aes::<10>::new(&derive(shared, &[], ENCRYPTION)).cbc_encrypt(&terminal, &mut chip);
+    chip
 }
 
-// The ciphers and digests of a PACE: three random blocks, the nonce encrypted under the key of the
-// password, two tokens, and the two keys of the channel, by a block of each.
+// The ciphers and digests that a PACE needs: three random blocks, the key of the password with the nonce
+// under it, and the two keys of the secret, with two MACs under one and a block under the other.
 #[tactic(auto, unfolding(crate::specs::Paces::pace_work))]
 fn pace_work(seed: &[u8; 16]) -> [u8; 16]
     ensures { result ≡ pace_work seed.now }
@@ -88,10 +93,7 @@ fn pace_work(seed: &[u8; 16]) -> [u8; 16]
     let first = drawn(seed);
     let second = drawn(&first);
     let third = drawn(&second);
-    let terminal = code_of(&third, &[FILL; 82]);
-    let chip = code_of(&second, &[FILL; 82]);
-    let sent = keyed(&terminal, &chip, &nonce_of(&first), 1);
-    keyed(&terminal, &chip, &sent, 2)
+    sent(&nonce_of(&first), &third)
 }
 
 // What so many PACE come to.

@@ -2,12 +2,12 @@ ghost use Rattle.std.specs.Prelude.{◌≡◌, ◌↔◌, ◌<◌, ◌^◌, IsOk
 ghost use Rattle.eid_bits.specs.Date.{is_date};
 
 /// The bytes are no date.
-#[derive(Clone, Copy, Debug, PartialEq, Eq, Hash)]
+#[derive(Clone, Copy, Debug)]
 pub struct BadDate;
 
 /// A date as certificates have it: six bytes, each one digit of YYMMDD (BSI TR-03110-3). The month is 01 to
 /// 12 and the day 01 to 31; that a month has fewer days is not looked at.
-#[derive(Clone, Copy, Debug, PartialEq, Eq, Hash)]
+#[derive(Clone, Copy, Debug)]
 pub struct Date6 {
     digits: [u8; 6],
     pub ghost valid: { IsTrue (is_date digits) },
@@ -17,7 +17,10 @@ impl Date6 {
     ghost use Rattle.eid_bits.specs.Date.{number_of};
     ghost use Rattle.eid_bits.specs.Dates.{date_digits};
 
-    /// The date of these bytes. `BadDate` comes exactly where they are no date.
+    /// The date of these bytes.
+    ///
+    /// # Errors
+    /// `BadDate` exactly where they are no date.
     pub fn from_bytes(bytes: &[u8]) -> Result<Date6, BadDate>
         ensures date { IsOk result ↔ IsTrue (is_date bytes.now) }
         ensures value { IfOk result (λ d. date_digits d ≡ bytes.now) }

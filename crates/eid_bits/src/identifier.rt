@@ -1,5 +1,5 @@
 /// The identifiers that the chip and the terminal know.
-#[derive(Clone, Copy, Debug, PartialEq, Eq, Hash)]
+#[derive(Clone, Copy, Debug)]
 pub enum Known {
     /// The eID application (BSI TR-03110-4).
     Application,
@@ -27,6 +27,28 @@ pub enum Known {
     Sector,
 }
 
+/// The identifiers with their bytes, in the order of the variants.
+pub const TABLE: [(Known, &[u8]); 12] = [
+    (Known::Application, b"\xE8\x07\x04\x00\x7F\x00\x07\x03\x02"),
+    (
+        Known::PaceAes128,
+        b"\x04\x00\x7F\x00\x07\x02\x02\x04\x02\x02",
+    ),
+    (
+        Known::PaceAes256,
+        b"\x04\x00\x7F\x00\x07\x02\x02\x04\x02\x04",
+    ),
+    (Known::CaAes128, b"\x04\x00\x7F\x00\x07\x02\x02\x03\x02\x02"),
+    (Known::CaAes256, b"\x04\x00\x7F\x00\x07\x02\x02\x03\x02\x04"),
+    (Known::TaSha256, b"\x04\x00\x7F\x00\x07\x02\x02\x02\x02\x03"),
+    (Known::RiSha256, b"\x04\x00\x7F\x00\x07\x02\x02\x05\x02\x03"),
+    (Known::AtTemplate, b"\x04\x00\x7F\x00\x07\x03\x01\x02\x02"),
+    (Known::Birth, b"\x04\x00\x7F\x00\x07\x03\x01\x04\x01"),
+    (Known::Expiry, b"\x04\x00\x7F\x00\x07\x03\x01\x04\x02"),
+    (Known::Community, b"\x04\x00\x7F\x00\x07\x03\x01\x04\x03"),
+    (Known::Sector, b"\x04\x00\x7F\x00\x07\x03\x01\x03\x02"),
+];
+
 impl Known {
     ghost use Rattle.std.specs.Prelude.{◌≡◌};
     ghost use Rattle.eid_bits.specs.Identifiers.{known_bytes};
@@ -35,19 +57,6 @@ impl Known {
     pub fn bytes(self) -> &'static [u8]
         ensures { result.now ≡ known_bytes self }
     {
-        match self {
-            Known::Application => &[0xE8, 0x07, 0x04, 0x00, 0x7F, 0x00, 0x07, 0x03, 0x02],
-            Known::PaceAes128 => &[0x04, 0x00, 0x7F, 0x00, 0x07, 2, 2, 4, 2, 2],
-            Known::PaceAes256 => &[0x04, 0x00, 0x7F, 0x00, 0x07, 2, 2, 4, 2, 4],
-            Known::CaAes128 => &[0x04, 0x00, 0x7F, 0x00, 0x07, 2, 2, 3, 2, 2],
-            Known::CaAes256 => &[0x04, 0x00, 0x7F, 0x00, 0x07, 2, 2, 3, 2, 4],
-            Known::TaSha256 => &[0x04, 0x00, 0x7F, 0x00, 0x07, 2, 2, 2, 2, 3],
-            Known::RiSha256 => &[0x04, 0x00, 0x7F, 0x00, 0x07, 2, 2, 5, 2, 3],
-            Known::AtTemplate => &[0x04, 0x00, 0x7F, 0x00, 0x07, 3, 1, 2, 2],
-            Known::Birth => &[0x04, 0x00, 0x7F, 0x00, 0x07, 3, 1, 4, 1],
-            Known::Expiry => &[0x04, 0x00, 0x7F, 0x00, 0x07, 3, 1, 4, 2],
-            Known::Community => &[0x04, 0x00, 0x7F, 0x00, 0x07, 3, 1, 4, 3],
-            Known::Sector => &[0x04, 0x00, 0x7F, 0x00, 0x07, 3, 1, 3, 2],
-        }
+        TABLE[self as usize].1
     }
 }

@@ -9,10 +9,5 @@ mod template;
 
 pub use date::{BadDate, Date6};
 pub use identifier::Known;
-pub use lookup::known;
+pub use lookup::{known, law_one_identifier};
 pub use template::{BadTemplate, Template};
-
-#[cfg(test)]
-mod identifier_tests;
-#[cfg(test)]
-mod tests;

@@ -1,5 +1,5 @@
 -- The files of the record that a chip's cells stand for.
-use Rattle.std.proofs.Common.{◌≡◌, ℕ, zero, suc, ◌+◌, ◌-◌, ◌≤◌, min, List, [], ◌∷◌, length, map, take, drop, Option, Some, None, slice_range, refl, ap, ◌∙◌, subst, arith}
+use Rattle.std.proofs.Common.{◌≡◌, ℕ, zero, suc, ◌+◌, ◌-◌, ◌≤◌, min, List, [], ◌∷◌, length, map, take, drop, Option, Some, None, slice_range, refl, sym, ap, ◌∙◌, subst, arith}
 use Rattle.std.specs.Prelude.{IfSome, IsSomeAnd, slice_index_or, unwrap_or, nat_lt, ◌&&◌, ◌||◌, ◌==◌, not, if◌then◌else◌}
 use Rattle.std.specs.Option.{option_map, option_and_then}
 use Rattle.std.proofs.lemmas.List.{length-drop, take_min}
@@ -23,6 +23,12 @@ length_at (first ∷ later) (suc file) = length_at later file
 -- what is held, where the cells stand for it
 pub held_is : (cells : List ℕ) (full : FullRecord) → stands cells ≡ Some full → held cells ≡ full
 held_is cells full e = rw e refl
+
+-- the cells that a store fits stand for the record held
+pub held_stands : (store : Store) (device : Device) (cells : List ℕ) → Fits store device cells → stands cells ≡ Some (held cells)
+held_stands store device cells fits =
+    let found = stood_for store device cells fits in
+    found.1 ∙ ap Some (sym (held_is cells found.0 found.1))
 
 -- the record held has the store's fields
 pub held_fields : (store : Store) (device : Device) (cells : List ℕ) → Fits store device cells → (held cells).fields ≡ fields_of store

@@ -1,5 +1,5 @@
 -- From the rules of a kind to all rules.
-use Rattle.std.proofs.Common.{◌≡◌, ℕ, ◌<◌, ◌≤◌, Bool, true, false, ◌==◌, ◌&&◌, ◌||◌, not, List, [], ◌∷◌, ◌++◌, length, Option, Some, None, refl, sym, ap, ◌∙◌, arith}
+use Rattle.std.proofs.Common.{◌≡◌, ℕ, ◌-◌, ◌<◌, ◌≤◌, Bool, true, false, ◌==◌, ◌&&◌, ◌||◌, not, List, [], ◌∷◌, ◌++◌, length, Option, Some, None, refl, sym, ap, ◌∙◌, subst, arith}
 use Rattle.std.specs.Prelude.{if◌then◌else◌, is_none, nat_le, option_map}
 use Rattle.std.proofs.lemmas.Bool.Decides.{nat_tests}
 use Rattle.eid_apdu.specs.Command.{PlainCommand}
@@ -7,16 +7,31 @@ use Rattle.eid_apdu.specs.Answer.{PlainReply}
 use Rattle.eid_copro.specs.declared.ask.Ask.{Ask}
 use Rattle.eid_copro.specs.declared.ask.Question.{Question}
 use Rattle.eid_copro.specs.declared.ask.Answer.{Answer}
-use Rattle.eid_record.specs.Plain.{FullRecord}
+use Rattle.eid_record.specs.Plain.{FullRecord, PlainEffect}
+use Rattle.eid_cells.specs.Device.{Device}
+use Rattle.eid_copro.specs.Seen.{CoproSeen}
+use Rattle.eid_sm.specs.Keys.{ChannelState}
+use Rattle.eid_store.specs.declared.store.Store.{Store}
+use Rattle.eid_store.specs.Store as stored
 use Rattle.eid_model.specs.declared.kind.Kind.{Kind}
 use Rattle.eid_model.specs.Kinds.{kind_named}
 use Rattle.eid_model.specs.Runs.{answers_of}
-use Rattle.eid_model.specs.Sessions.{State, advanced, ended_run}
-use Rattle.eid_model.specs.Rules.{Heard, Command, Situation, RuleRow, MAX_REQUEST, hearing_rules, naming_rules, request_rules, kind_rules, answer_rules, proof_rules, concerns, first_failed}
-use Rattle.eid_model.specs.Answers.{Outcome, outcome, outcome_of, outcome_by, question, question_by, question_of, situation, kind_heard, command_of, status_alone, state_answered}
-use Rattle.eid_model.specs.Legal.{AreAsked}
+use Rattle.eid_model.specs.Sessions.{State}
+use Rattle.eid_model.specs.Rules.{Heard, Command, plain_of, Situation, RuleRow, MAX_REQUEST, hearing_rules, naming_rules, request_rules, kind_rules, answer_rules, proof_rules, concerns, first_failed}
+use Rattle.eid_model.specs.Answers.{Outcome, outcome, outcome_of, outcome_by, question, question_by, question_of, due, due_by, due_of, situation, kind_heard, command_of, status_alone}
+use Rattle.eid_model.specs.Legal.{AreAsked, IsHeard}
+use Rattle.eid_model.proofs.Books.{nothing_due, nothing_due_by}
+use Rattle.eid_chip.specs.Transitions.{state_answered, state_carried_out, state_refused}
 use Rattle.eid_chip.specs.declared.reaction.Reaction.{Reaction}
-use Rattle.eid_chip.specs.Steps.{PlainRefusal, refusal_by, known, heard_command, outcome_seen, state_left, state_due, Told, Answers}
+use Rattle.eid_chip.specs.declared.reaction.Ending.{Ending}
+use Rattle.eid_chip.specs.declared.reaction.Ending.TheVariants.{Answered, Lost}
+use Rattle.eid_chip.specs.declared.session.Session.{Session}
+use Rattle.eid_chip.specs.Commits.{World, world, Wrote, Leaves}
+use Rattle.eid_chip.specs.Held.{held}
+use Rattle.eid_chip.specs.States.{state}
+use Rattle.eid_chip.specs.Steps.{PlainRefusal, refusal_by, known, heard_command, outcome_seen, state_left, state_due, Stepped, Performed, Answers, Reacts, IsEnding, IsNext, IsEndedByKind, IsEndedByRules, Responds, rule_of}
+use Rattle.eid_chip.proofs.HeldFiles.{held_stands}
+use Rattle.eid_chip.proofs.Unasked.{not_asked}
 
 passed_at : (b : Bool) (row : RuleRow) (rows more : List RuleRow) (s : Situation) → (refusal_by rows s ≡ None → first_failed (rows ++ more) s ≡ first_failed more s) → option_map {U = PlainRefusal} (λ r. record { rule = r.number; status = r.status s }) (if b then Some row else first_failed rows s) ≡ None → (if b then Some row else first_failed (rows ++ more) s) ≡ first_failed more s
 passed_at true row rows more s later e = absurd (cc)
@@ -85,18 +100,6 @@ asked_alike f g same given [] asked = sym (same given) ∙ asked
 asked_alike f g same given (ask ∷ later) asked =
     (sym (same given) ∙ asked.0, asked.1, asked_alike f g same (given ++ ask.answer ∷ []) later asked.2)
 
--- a command of a known kind, in a request that can be answered, is answered by the rules of its kind
-pub told_answers : (kept : FullRecord) (old : State) (c : PlainCommand) (kind : Kind) (asks : List Ask) (r : Reaction) (reply : PlainReply) → kind_named old.next c ≡ Some kind
-    → ((answers : List Answer) → refusal_by naming_rules (heard_command kept old c answers) ≡ None)
-    → ((answers : List Answer) → refusal_by request_rules (heard_command kept old c answers) ≡ None)
-    → Told kind kept old c asks r reply → Answers kept old (Command c) asks r reply
-told_answers kept old c kind asks r reply named names requests told = record {
-  asked = asked_alike (λ answers. question_by kind_rules (known kind kept old c answers)) (λ answers. question (heard_command kept old c answers))
-      (λ answers. sym (kind_question kept old c kind answers named (names answers) (requests answers))) [] asks told.asked;
-  ended = kind_outcome kept old c kind (answers_of asks) named (names (answers_of asks)) (requests (answers_of asks)) ∙ told.ended;
-  left = told.left ∙ ap (λ (k : Option Kind). state_due r.rule.0 (state_answered r.rule.0 k c (answers_of asks) old)) (sym named);
-}
-
 -- a rule on the objects of secure messaging
 abbrev pub is_on_objects : ℕ → Bool
 is_on_objects rule = rule == 2 || rule == 3
@@ -109,10 +112,10 @@ AreOthers : List RuleRow → Type 0
 AreOthers [] = Unit {0}
 AreOthers (row ∷ rows) = (is_on_objects row.number ≡ false) × AreOthers rows
 
-rule_of : (rows : List RuleRow) (s : Situation) → AreOthers rows → is_on_objects (outcome_by (first_failed rows s) s).rule ≡ false
+others_fail : (rows : List RuleRow) (s : Situation) → AreOthers rows → is_on_objects (outcome_by (first_failed rows s) s).rule ≡ false
 unfolding AreOthers
-rule_of [] s others = refl
-rule_of (row ∷ rows) s others = rule_at (concerns row.kinds s.kind && not (row.holds s)) row rows s others.0 (rule_of rows s others.1)
+others_fail [] s others = refl
+others_fail (row ∷ rows) s others = rule_at (concerns row.kinds s.kind && not (row.holds s)) row rows s others.0 (others_fail rows s others.1)
 
 -- a command that was heard fails none of them
 pub command_rule : (kept : FullRecord) (old : State) (c : PlainCommand) (answers : List Answer) (o : Outcome) → outcome (heard_command kept old c answers) ≡ o → is_on_objects o.rule ≡ false
@@ -122,10 +125,11 @@ command_rule kept old c answers o is =
     let later = naming_rules ++ request_rules ++ kind_rules ++ answer_rules ++ proof_rules in
     let found : first_failed (hearing_rules ++ later) s ≡ first_failed later s = passed hearing_rules later s refl in
     ap (λ (x : Outcome). is_on_objects x.rule) (sym is) ∙ ap (λ (f : Option RuleRow). is_on_objects (outcome_by f s).rule) found
-    ∙ rule_of later s (refl, (refl, (refl, (refl, (refl, (refl, (refl, (refl, (refl, (refl, (refl, (refl, (refl, (refl, (refl, (refl, (refl, _)))))))))))))))))
+    ∙ others_fail later s (refl, (refl, (refl, (refl, (refl, (refl, (refl, (refl, (refl, (refl, (refl, (refl, (refl, (refl, (refl, (refl, (refl, _)))))))))))))))))
 
-pub command_answered : (kept : FullRecord) (old : State) (c : PlainCommand) (asks : List Ask) (r : Reaction) (reply : PlainReply) → Answers kept old (Command c) asks r reply → is_on_objects r.rule.0 ≡ false
-command_answered kept old c asks r reply answers = command_rule kept old c (answers_of asks) (outcome_seen r reply) answers.ended
+pub command_answered : (old : State) (c : PlainCommand) (asks : List Ask) (ending : Ending) (reply : PlainReply) (before after : World) → IsEndedByRules old (Command c) asks ending reply before after → is_on_objects (rule_of ending) ≡ false
+command_answered old c asks (Answered r finished) reply before after did = command_rule (held before.cells) old c (answers_of asks) (outcome_seen r reply) did.ended.1
+command_answered old c asks (Lost finished) reply before after did = refl
 
 -- the outcome of a refusal
 abbrev pub refused_so : PlainRefusal → Outcome
@@ -136,30 +140,30 @@ if_not true x y e = absurd (cc)
 if_not false x y e = refl
 
 -- a refused command leaves the state without a run
-pub refused_state : (rule : ℕ) (kind : Option Kind) (c : PlainCommand) (answers : List Answer) (old : State) → (rule == 0) ≡ false → state_answered rule kind c answers old ≡ ended_run old
+pub refused_state : (rule : ℕ) (kind : Option Kind) (c : PlainCommand) (answers : List Answer) (old : State) → (rule == 0) ≡ false → state_answered rule kind c answers old ≡ state_refused old
 refused_state rule None c answers old e = refl
-refused_state rule (Some kind) c answers old e = if_not (rule == 0) (advanced kind c answers old) (ended_run old) e
+refused_state rule (Some kind) c answers old e = if_not (rule == 0) (state_carried_out kind c answers old) (state_refused old) e
 
 -- a refusal puts no question, and is the answer
 pub refused_answers : (rows more later : List RuleRow) (kept : FullRecord) (old : State) (heard : Heard) (refused : PlainRefusal) (r : Reaction) (reply : PlainReply) → refusal_by rows (situation kept old heard []) ≡ Some refused
     → question (situation kept old heard []) ≡ (if is_none (first_failed (rows ++ more) (situation kept old heard [])) then question_of (situation kept old heard []).kind (situation kept old heard []) else None)
     → outcome (situation kept old heard []) ≡ outcome_by (first_failed (rows ++ later) (situation kept old heard [])) (situation kept old heard [])
     → (refused.rule == 0) ≡ false → r.rule.0 ≡ refused.rule → reply ≡ status_alone refused.status
-    → state_left r old.channel ≡ state_due refused.rule (ended_run old) → Answers kept old heard [] r reply
+    → state_left r old.channel ≡ state_due refused.rule (state_refused old) → Answers kept old heard [] r reply
 refused_answers rows more later kept old heard refused r reply fails asks ends is_one rule answered left =
     let s = situation kept old heard [] in
     let same : refused_so refused ≡ outcome_seen r reply = rw (rule, answered) refl in
     record {
       asked = asks ∙ if_not (is_none (first_failed (rows ++ more) s)) (question_of s.kind s) None (some_failed rows more s refused fails);
       ended = ends ∙ failed rows later s refused fails ∙ same;
-      left = left ∙ ap (λ (n : ℕ). state_due n (ended_run old)) (sym rule)
+      left = left ∙ ap (λ (n : ℕ). state_due n (state_refused old)) (sym rule)
           ∙ ap (λ (x : State). state_due r.rule.0 x) (sym (refused_state r.rule.0 (kind_heard old heard) (command_of heard) [] old (ap (λ (n : ℕ). n == 0) rule ∙ is_one)));
     }
 
 -- a command whose class, instruction or parameters are refused
 pub name_refused : (kept : FullRecord) (old : State) (c : PlainCommand) (refused : PlainRefusal) (r : Reaction) (reply : PlainReply) → refusal_by naming_rules (heard_command kept old c []) ≡ Some refused
     → (refused.rule == 0) ≡ false → r.rule.0 ≡ refused.rule → reply ≡ status_alone refused.status
-    → state_left r old.channel ≡ state_due refused.rule (ended_run old) → Answers kept old (Command c) [] r reply
+    → state_left r old.channel ≡ state_due refused.rule (state_refused old) → Answers kept old (Command c) [] r reply
 unfolding question outcome
 name_refused kept old c refused r reply fails is_one rule answered left =
     let s = heard_command kept old c [] in
@@ -171,7 +175,7 @@ name_refused kept old c refused r reply fails is_one rule answered left =
 -- a command of some kind in a request that is refused
 pub request_refused : (kept : FullRecord) (old : State) (c : PlainCommand) (refused : PlainRefusal) (r : Reaction) (reply : PlainReply) → refusal_by naming_rules (heard_command kept old c []) ≡ None → refusal_by request_rules (heard_command kept old c []) ≡ Some refused
     → (refused.rule == 0) ≡ false → r.rule.0 ≡ refused.rule → reply ≡ status_alone refused.status
-    → state_left r old.channel ≡ state_due refused.rule (ended_run old) → Answers kept old (Command c) [] r reply
+    → state_left r old.channel ≡ state_due refused.rule (state_refused old) → Answers kept old (Command c) [] r reply
 unfolding question outcome
 request_refused kept old c refused r reply names fails is_one rule answered left =
     let s = heard_command kept old c [] in
@@ -185,7 +189,7 @@ request_refused kept old c refused r reply names fails is_one rule answered left
 -- bytes that are no command, or whose objects of secure messaging are missing or wrong
 pub hearing_refused : (kept : FullRecord) (old : State) (heard : Heard) (refused : PlainRefusal) (r : Reaction) (reply : PlainReply) → refusal_by hearing_rules (situation kept old heard []) ≡ Some refused
     → (refused.rule == 0) ≡ false → r.rule.0 ≡ refused.rule → reply ≡ status_alone refused.status
-    → state_left r old.channel ≡ state_due refused.rule (ended_run old) → Answers kept old heard [] r reply
+    → state_left r old.channel ≡ state_due refused.rule (state_refused old) → Answers kept old heard [] r reply
 unfolding question outcome
 hearing_refused kept old heard refused r reply fails is_one rule answered left =
     refused_answers hearing_rules (naming_rules ++ request_rules ++ kind_rules ++ answer_rules) (naming_rules ++ request_rules ++ kind_rules ++ answer_rules ++ proof_rules) kept old heard refused r reply fails
@@ -201,3 +205,102 @@ pub request_passes : (kept : FullRecord) (old : State) (c : PlainCommand) (answe
 request_passes kept old c answers fits =
     let within : nat_le (length c.body) MAX_REQUEST ≡ true = grind (arith, nat_tests) in
     rw within refl
+
+-- ---- how a command ends that may commit
+
+-- the effects due are those of the kind
+kind_due : (kept : FullRecord) (old : State) (c : PlainCommand) (kind : Kind) (answers : List Answer) → kind_named old.next c ≡ Some kind → refusal_by naming_rules (heard_command kept old c answers) ≡ None → refusal_by request_rules (heard_command kept old c answers) ≡ None
+    → due (heard_command kept old c answers) ≡ due_by kind_rules (known kind kept old c answers)
+unfolding due
+kind_due kept old c kind answers named names requests =
+    ap (λ (f : Option RuleRow). if is_none f then due_of (heard_command kept old c answers).kind (heard_command kept old c answers) else []) (late_rules answer_rules kept old c answers names requests)
+    ∙ ap (λ (s : Situation). due_by kind_rules s) (known_so kept old c kind answers named)
+
+-- a command of a known kind, in a request that can be answered, ends by the rules of its kind
+pub ended_by_rules : (old : State) (c : PlainCommand) (kind : Kind) (asks : List Ask) (ending : Ending) (reply : PlainReply) (before after : World) → kind_named old.next c ≡ Some kind
+    → ((answers : List Answer) → refusal_by naming_rules (heard_command (held before.cells) old c answers) ≡ None)
+    → ((answers : List Answer) → refusal_by request_rules (heard_command (held before.cells) old c answers) ≡ None)
+    → IsEndedByKind kind old c asks ending reply before after → IsEndedByRules old (Command c) asks ending reply before after
+ended_by_rules old c kind asks ending reply before after named names requests did =
+    let kept = held before.cells in
+    let effects = sym (kind_due kept old c kind (answers_of asks) named (names (answers_of asks)) (requests (answers_of asks))) in
+    let outcome_is = sym (kind_outcome kept old c kind (answers_of asks) named (names (answers_of asks)) (requests (answers_of asks))) in
+    record {
+      asked = asked_alike (λ answers. question_by kind_rules (known kind kept old c answers)) (λ answers. question (heard_command kept old c answers))
+          (λ answers. sym (kind_question kept old c kind answers named (names answers) (requests answers))) [] asks did.asked;
+      ended = subst (λ (l : List PlainEffect). IsEnding l (outcome (heard_command kept old c (answers_of asks))) ending reply) effects
+          (subst (λ (o : Outcome). IsEnding (due_by kind_rules (known kind kept old c (answers_of asks))) o ending reply) outcome_is did.ended);
+      next = subst (λ (k : Option Kind). IsNext (λ rule. state_answered rule k c (answers_of asks) old) ending old.channel) (sym named) did.next;
+      leaves = subst (λ (l : List PlainEffect). Leaves l kept ending before after) effects did.leaves;
+    }
+
+-- a device that is not written to
+pub unwritten : (device : Device) → Wrote 0 device device
+unwritten device =
+    let planned : device.planned ≡ device.planned - 0 = omega arith in
+    record { writes = 0; least = omega arith; most = omega arith; device = ap (λ (n : ℕ). record device { planned = n }) planned; spared = λ told struck. omega (arith, struck.0, struck.1) }
+
+-- a command that commits nothing leaves all but the coprocessor as it was
+pub leaves_all : (effects : List PlainEffect) (r : Reaction) (before after : CoproSeen) (store : Store) (device : Device) (cells : List ℕ) → effects ≡ [] → stored.Fits store device cells
+    → Leaves effects (held cells) (Answered r 0) (world before store device cells) (world after store device cells)
+leaves_all effects r before after store device cells none fits =
+    subst (λ (l : List PlainEffect). Leaves l (held cells) (Answered r 0) (world before store device cells) (world after store device cells)) (sym none)
+    (fits, held_stands store device cells fits, unwritten device)
+
+-- a command of a kind that commits nothing
+pub performed : (kind : Kind) (session : Session) (c : PlainCommand) (r : Reaction) (reply : PlainReply) (before after : CoproSeen) (store : Store) (device : Device) (cells : List ℕ) → stored.Fits store device cells
+    → Stepped before after kind (held cells) session c r reply → Performed kind session c (Answered r 0) reply (world before store device cells) (world after store device cells)
+performed kind session c r reply before after store device cells fits stepped = record {
+  asks = stepped.asks;
+  were_asked = stepped.were_asked;
+  ended = λ channel.
+      let told = stepped.tells channel in
+      let none = nothing_due_by kind_rules (known kind (held cells) (state session channel) c (answers_of stepped.asks)) in
+      record {
+        asked = told.asked;
+        ended = (sym (ap length none), told.ended);
+        next = told.left;
+        leaves = leaves_all _ r before after store device cells none fits;
+      };
+  layout = refl;
+}
+
+-- a refusal before the kind is known
+pub refused_ends : (old : State) (heard : Heard) (r : Reaction) (reply : PlainReply) (copro : CoproSeen) (store : Store) (device : Device) (cells : List ℕ) → stored.Fits store device cells
+    → Answers (held cells) old heard [] r reply → IsEndedByRules old heard [] (Answered r 0) reply (world copro store device cells) (world copro store device cells)
+refused_ends old heard r reply copro store device cells fits answers =
+    let none = nothing_due (situation (held cells) old heard []) in
+    record {
+      asked = answers.asked;
+      ended = (sym (ap length none), answers.ended);
+      next = answers.left;
+      leaves = leaves_all _ r copro copro store device cells none fits;
+    }
+
+-- and so a command that is refused
+pub refused_reacts : (session : Session) (c : PlainCommand) (ending : Ending) (r : Reaction) (reply : PlainReply) (copro : CoproSeen) (store : Store) (device : Device) (cells : List ℕ)
+    → stored.Fits store device cells → ending ≡ Answered r 0 → ((channel : Option ChannelState) → Answers (held cells) (state session channel) (Command c) [] r reply)
+    → Reacts session c ending reply (world copro store device cells) (world copro store device cells)
+refused_reacts session c ending r reply copro store device cells fits ends answers = record {
+  asks = [];
+  were_asked = not_asked copro;
+  ended = λ channel.
+      subst (λ (e : Ending). IsEndedByRules (state session channel) (Command c) [] e reply (world copro store device cells) (world copro store device cells)) (sym ends)
+      (refused_ends (state session channel) (Command c) r reply copro store device cells fits (answers channel));
+  layout = refl;
+}
+
+-- and so a response to bytes of which no command was heard
+pub refused_responds : (heard : Heard) (session : Session) (channel : Option ChannelState) (bytes : List ℕ) (plain : Option PlainCommand) (ending : Ending) (r : Reaction) (reply : PlainReply) (copro : CoproSeen) (store : Store) (device : Device) (cells : List ℕ)
+    → stored.Fits store device cells → IsHeard channel bytes heard → plain_of heard ≡ None → plain ≡ None → ending ≡ Answered r 0 → Answers (held cells) (state session channel) heard [] r reply
+    → Responds session channel bytes plain ending reply (world copro store device cells) (world copro store device cells)
+refused_responds heard session channel bytes plain ending r reply copro store device cells fits hears none is ends answers = record {
+  heard = heard;
+  hears = hears;
+  is_plain = is ∙ sym none;
+  asks = [];
+  were_asked = not_asked copro;
+  ended = subst (λ (e : Ending). IsEndedByRules (state session channel) heard [] e reply (world copro store device cells) (world copro store device cells)) (sym ends)
+      (refused_ends (state session channel) heard r reply copro store device cells fits answers);
+  layout = refl;
+}

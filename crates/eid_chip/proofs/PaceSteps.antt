@@ -12,8 +12,8 @@ use Rattle.eid_pace.specs.States.{PlainChoice, PlainNonceSent, PlainMapped, Plai
 use Rattle.eid_pace.specs.Selections.{PlainSelection, chosen_by}
 use Rattle.eid_pace.specs.Rules.{password_rule, token_rule}
 use Rattle.eid_pace.specs.SelectionIn.{selection_in}
-use Rattle.eid_pace.specs.Keys.{encrypted_nonce, token}
-use Rattle.eid_pace.specs.Check.{check_given, done_by}
+use Rattle.eid_pace.specs.Keys.{encrypted_nonce}
+use Rattle.eid_pace.specs.Check.{check_given, done_by, terminal_token, chip_token}
 use Rattle.eid_tlv.specs.Objects.{object}
 use Rattle.eid_pace.specs.MapEnds.{MapEnd, NoPair, NoMapping, NoBase, Based, map_asks, map_given}
 use Rattle.eid_pace.specs.AgreeEnds as agree
@@ -23,11 +23,12 @@ use Rattle.eid_record.specs.Plain.{FullRecord}
 use Rattle.eid_sm.specs.Keys.{ChannelState}
 use Rattle.eid_model.specs.declared.kind.Kind.{Kind}
 use Rattle.eid_model.specs.declared.kind.Kind.TheVariants.{SelectPace, EncryptedNonce, MapNonce, PerformKeyAgreement, MutualAuthentication}
-use Rattle.eid_model.specs.Answers.{status_alone, data_alone, state_answered, previous_name}
+use Rattle.eid_model.specs.Answers.{status_alone, data_alone, previous_name}
 use Rattle.eid_model.specs.Bodies.{no_data, authentication_data, data_in, holds_point, holds_value}
 use Rattle.eid_model.specs.Rules.{is_can}
 use Rattle.eid_model.specs.Runs.{Phase, Idle, Chose, SentNonce, HasBase, HasSecret, entered, as_chosen, with_nonce, with_base, with_secret}
-use Rattle.eid_model.specs.Sessions.{State, advanced, ended_run, two_messages_later, memory_of, channel_after}
+use Rattle.eid_model.specs.Sessions.{State, memory_of, keys_of, channel_after}
+use Rattle.eid_chip.specs.Transitions.{state_answered, state_carried_out, state_refused, two_messages_later}
 use Rattle.eid_chip.specs.declared.reaction.Reaction.{Reaction}
 use Rattle.eid_chip.specs.declared.session.Session.{Session}
 use Rattle.eid_chip.specs.States.{state}
@@ -61,16 +62,16 @@ went_on reaction said old channel new reply rule answer opened session memory = 
 outcome_is : (rule : ℕ) (reply : PlainReply) (reaction : Reaction) (said : PlainReply) → reaction.rule.0 ≡ rule → said ≡ reply → record { rule = rule; reply = reply } ≡ outcome_seen reaction said
 outcome_is rule reply reaction said e f = cc
 
-due : (rule : ℕ) (kind : Kind) (c : PlainCommand) (given : List Answer) (old : State) → rule ≡ 0 → advanced kind c given old ≡ state_due rule (state_answered rule (Some kind) c given old)
+due : (rule : ℕ) (kind : Kind) (c : PlainCommand) (given : List Answer) (old : State) → rule ≡ 0 → state_carried_out kind c given old ≡ state_due rule (state_answered rule (Some kind) c given old)
 due rule kind c given old e = rw e refl
 
 -- a body that has not the form of its step
 pub record WasUnformed (reaction : Reaction) (said : PlainReply) (old : State) : Type 0 where
   pub rule : reaction.rule.0 ≡ 10
   pub answered : said ≡ status_alone 0x6A80
-  pub state : state_left reaction old.channel ≡ state_due 10 (ended_run old)
+  pub state : state_left reaction old.channel ≡ state_due 10 (state_refused old)
 
-not_due : (rule : ℕ) (kind : Kind) (c : PlainCommand) (given : List Answer) (old : State) → rule ≡ 10 → state_due 10 (ended_run old) ≡ state_due rule (state_answered rule (Some kind) c given old)
+not_due : (rule : ℕ) (kind : Kind) (c : PlainCommand) (given : List Answer) (old : State) → rule ≡ 10 → state_due 10 (state_refused old) ≡ state_due rule (state_answered rule (Some kind) c given old)
 not_due rule kind c given old e = rw e refl
 
 pub no_empty_body : (kept : FullRecord) (old : State) (c : PlainCommand) (reaction : Reaction) (said : PlainReply) → bytes_eq c.body no_data ≡ false → WasUnformed reaction said old → Told EncryptedNonce kept old c [] reaction said
@@ -175,12 +176,12 @@ last_data kept own = object 0x7C (object 0x86 own ++ object 0x87 kept.fields.cur
 
 -- the terminal's token was right, and a channel was opened
 pub authenticated : (kept : FullRecord) (old : State) (c : PlainCommand) (agreed : PlainAgreed) (sent : List ℕ) (done : PlainDone) (own : List ℕ) (reaction : Reaction) (said : PlainReply) → old.phase ≡ HasSecret agreed → sent ≡ data_in c.body → holds_value 0x85 8 c.body ≡ true → Ok (done, own) ≡ check_given agreed sent → reaction.rule.0 ≡ 0 → said ≡ data_alone (last_data kept own)
-    → state_left reaction old.channel ≡ record { next = None; phase = Idle; selected = old.selected; current = old.current; pace = Some (memory_of done); channel = Some (channel_after 0 done) }
+    → state_left reaction old.channel ≡ record { next = None; phase = Idle; selected = old.selected; current = old.current; pace = Some (memory_of done); channel = Some (channel_after 0 (keys_of done)) }
     → Told MutualAuthentication kept old c [] reaction said
 unfolding entered
 authenticated kept old c agreed sent done own reaction said at is body e rule answer left =
-    let parts = token_parts (bytes_eq sent (token agreed.shared agreed.chip_point)) done (done_by agreed) own (token agreed.shared agreed.terminal_point) token_rule e in
-    let right : bytes_eq (data_in c.body) (token agreed.shared agreed.chip_point) ≡ true = rw (← is) parts.0 in
+    let parts = token_parts (bytes_eq sent (terminal_token agreed)) done (done_by agreed) own (chip_token agreed) token_rule e in
+    let right : bytes_eq (data_in c.body) (terminal_token agreed) ≡ true = rw (← is) parts.0 in
     record {
       asked = rw body refl;
       ended = rw (body, at, right) (outcome_is 0 _ reaction said rule (answer ∙ ap (λ (o : List ℕ). data_alone (last_data kept o)) parts.2));

@@ -1,26 +1,26 @@
 -- Steps that put no question.
-use Rattle.std.proofs.Common.{◌≡◌, sym, ℕ, List, [], Option, refl, subst, arith}
+use Rattle.std.proofs.Common.{◌≡◌, sym, [], Option, refl, subst, arith}
 use Rattle.std.proofs.lemmas.List.{append-nil}
 use Rattle.eid_apdu.specs.Command.{PlainCommand}
 use Rattle.eid_apdu.specs.Answer.{PlainReply}
-use Rattle.eid_copro.specs.Told.{Told as ToldBefore}
-use Rattle.eid_copro.specs.declared.ask.Ask.{Ask}
+use Rattle.eid_copro.specs.Seen.{CoproSeen}
 use Rattle.eid_record.specs.Plain.{FullRecord}
-use Rattle.eid_pace.specs.Asking.{WereAsked}
+use Rattle.eid_copro.specs.Asking.{WereAsked}
 use Rattle.eid_sm.specs.Keys.{ChannelState}
 use Rattle.eid_model.specs.declared.kind.Kind.{Kind}
 use Rattle.eid_model.specs.declared.kind.Kind.TheVariants.{NoStep}
-use Rattle.eid_model.specs.Sessions.{State, ended_run}
+use Rattle.eid_model.specs.Sessions.{State}
 use Rattle.eid_model.specs.Answers.{status_alone}
+use Rattle.eid_chip.specs.Transitions.{state_refused}
 use Rattle.eid_chip.specs.declared.session.Session.{Session}
 use Rattle.eid_chip.specs.declared.reaction.Reaction.{Reaction}
 use Rattle.eid_chip.specs.States.{state}
 use Rattle.eid_chip.specs.Steps.{Told, Stepped, state_left, state_due}
 
 -- a coprocessor that was not asked
-pub not_asked : {C : Type 0} (log : C → List Ask) (spare faults : C → ℕ) (told : C → ToldBefore) (copro : C) → WereAsked log spare faults told copro copro []
-not_asked log spare faults told copro = record {
-  logged = sym (append-nil (log copro));
+pub not_asked : (copro : CoproSeen) → WereAsked copro copro []
+not_asked copro = record {
+  logged = sym (append-nil copro.log);
   spent = omega arith;
   same_told = refl;
   later = omega arith;
@@ -28,15 +28,15 @@ not_asked log spare faults told copro = record {
 }
 
 -- the coprocessor stays as it is
-pub unasked : {C : Type 0} (log : C → List Ask) (spare faults : C → ℕ) (told : C → ToldBefore) (copro : C) (kind is : Kind) (kept : FullRecord) (session : Session) (c : PlainCommand) (r : Reaction) (reply : PlainReply) → kind ≡ is → ((channel : Option ChannelState) → Told is kept (state session channel) c [] r reply) → Stepped log spare faults told copro copro kind kept session c r reply
-unasked log spare faults told copro kind is kept session c r reply same tells = record {
+pub unasked : (copro : CoproSeen) (kind is : Kind) (kept : FullRecord) (session : Session) (c : PlainCommand) (r : Reaction) (reply : PlainReply) → kind ≡ is → ((channel : Option ChannelState) → Told is kept (state session channel) c [] r reply) → Stepped copro copro kind kept session c r reply
+unasked copro kind is kept session c r reply same tells = record {
   asks = [];
-  were_asked = not_asked log spare faults told copro;
+  were_asked = not_asked copro;
   tells = λ channel. subst (λ (k : Kind). Told k kept (state session channel) c [] r reply) (sym same) (tells channel);
 }
 
 -- a GENERAL AUTHENTICATE that the run has not come to is refused
-pub no_step : (kept : FullRecord) (old : State) (c : PlainCommand) (r : Reaction) (reply : PlainReply) → r.rule.0 ≡ 9 → reply ≡ status_alone 0x6985 → state_left r old.channel ≡ state_due 9 (ended_run old) → Told NoStep kept old c [] r reply
+pub no_step : (kept : FullRecord) (old : State) (c : PlainCommand) (r : Reaction) (reply : PlainReply) → r.rule.0 ≡ 9 → reply ≡ status_alone 0x6985 → state_left r old.channel ≡ state_due 9 (state_refused old) → Told NoStep kept old c [] r reply
 no_step kept old c r reply rule answered left = record {
   asked = refl;
   ended = rw (rule, answered) refl;

@@ -10,6 +10,8 @@ use Rattle.eid_model.specs.Sessions.{State, PaceMemory}
 use Rattle.eid_chip.specs.declared.session.Run.{Run}
 use Rattle.eid_chip.specs.declared.session.Run.TheVariants as runs
 use Rattle.eid_chip.specs.declared.session.LastPace.{LastPace}
+use Rattle.eid_store.specs.declared.store.Store.{Store}
+use Rattle.eid_chip.specs.declared.running.Running.{Running}
 use Rattle.eid_chip.specs.declared.session.Session.{Session}
 
 -- the step that comes next, and what later steps need, where a run stands there
@@ -45,3 +47,15 @@ state s channel = record {
 -- the state without a run
 abbrev pub without_run : State → State
 without_run s = record { next = None; phase = Idle; selected = s.selected; current = s.current; pace = s.pace; channel = s.channel }
+
+-- A chip with power: its store, and its state.
+pub record Living : Type 0 where
+  pub store : Store
+  pub state : State
+
+-- What contracts see of a chip.
+pub record ChipView : Type 0 where
+  pub life : Option Living
+
+abbrev pub living : Running → Living
+living running = record { store = running.store; state = state running.session running.channel }

@@ -1,14 +1,14 @@
 -- What one step of the chip promises: the questions that it puts, the outcome by the rules, and what the session is
 -- after it.
-use Rattle.std.specs.Prelude.{◌≡◌, ℕ, ◌==◌, ◌||◌, List, [], Option, Some, None, option_map, if◌then◌else◌}
+use Rattle.std.specs.Prelude.{◌≡◌, ℕ, ◌<◌, ◌==◌, ◌||◌, List, [], length, Option, Some, None, option_map, if◌then◌else◌}
 use Rattle.std.specs.Option.{option_or}
 use Rattle.eid_apdu.specs.Command.{PlainCommand}
 use Rattle.eid_apdu.specs.Answer.{PlainReply, spelled}
-use Rattle.eid_copro.specs.Told.{Told as ToldBefore}
+use Rattle.eid_copro.specs.Seen.{CoproSeen}
 use Rattle.eid_copro.specs.declared.ask.Ask.{Ask}
 use Rattle.eid_copro.specs.declared.ask.Answer.{Answer}
-use Rattle.eid_record.specs.Plain.{FullRecord}
-use Rattle.eid_pace.specs.Asking.{WereAsked}
+use Rattle.eid_record.specs.Plain.{FullRecord, PlainEffect}
+use Rattle.eid_copro.specs.Asking.{WereAsked}
 use Rattle.eid_sm.specs.declared.channel.Header.{Header}
 use Rattle.eid_sm.specs.Keys.{ChannelState, advanced, next_counter}
 use Rattle.eid_sm.specs.Plain.{plain_of as with_body}
@@ -16,15 +16,20 @@ use Rattle.eid_sm.specs.Replies.{sealed}
 use Rattle.eid_model.specs.declared.kind.Kind.{Kind}
 use Rattle.eid_model.specs.Moments.{ends_session_by}
 use Rattle.eid_model.specs.Runs.{answers_of}
-use Rattle.eid_model.specs.Sessions.{State, fresh, two_messages_later}
+use Rattle.eid_model.specs.Sessions.{State, fresh}
 use Rattle.eid_model.specs.Rules.{Heard, Command, plain_of, Situation, RuleRow, kind_rules, first_failed}
-use Rattle.eid_model.specs.Answers.{Outcome, outcome, question, outcome_of, question_by, situation, kind_heard, command_of, state_answered}
+use Rattle.eid_model.specs.Answers.{Outcome, outcome, question, due, outcome_of, question_by, due_by, situation, kind_heard, command_of}
 use Rattle.eid_model.specs.Legal.{IsHeard, AreAsked}
+use Rattle.eid_chip.specs.Transitions.{state_answered, two_messages_later}
 use Rattle.eid_chip.specs.declared.exchange.Exchange.{Exchange}
 use Rattle.eid_chip.specs.declared.session.Session.{Session}
 use Rattle.eid_chip.specs.States.{state}
 use Rattle.eid_chip.specs.declared.refusal.Refusal.{Refusal}
 use Rattle.eid_chip.specs.declared.reaction.Reaction.{Reaction}
+use Rattle.eid_chip.specs.declared.reaction.Ending.{Ending}
+use Rattle.eid_chip.specs.declared.reaction.Ending.TheVariants.{Answered, Lost}
+use Rattle.eid_chip.specs.Held.{held}
+use Rattle.eid_chip.specs.Commits.{World, Leaves, SameLayout}
 
 -- A refusal as numbers.
 pub record PlainRefusal : Type 0 where
@@ -68,38 +73,79 @@ pub record Told (kind : Kind) (kept : FullRecord) (old : State) (c : PlainComman
   pub left : state_left reaction old.channel ≡ state_due reaction.rule.0 (state_answered reaction.rule.0 (Some kind) c (answers_of asks) old)
 
 -- a command of a known kind put questions, by which the log grew, and was answered by them, in any channel
-pub record Stepped {C : Type 0} (log : C → List Ask) (spare faults : C → ℕ) (told : C → ToldBefore) (before after : C) (kind : Kind) (kept : FullRecord) (session : Session) (c : PlainCommand) (reaction : Reaction) (reply : PlainReply) : Type 0 where
+pub record Stepped (before after : CoproSeen) (kind : Kind) (kept : FullRecord) (session : Session) (c : PlainCommand) (reaction : Reaction) (reply : PlainReply) : Type 0 where
   pub asks : List Ask
-  pub were_asked : WereAsked log spare faults told before after asks
+  pub were_asked : WereAsked before after asks
   pub tells : (channel : Option ChannelState) → Told kind kept (state session channel) c asks reaction reply
 
-abbrev pub as_heard : PlainCommand → Heard
-as_heard c = Command c
+-- ---- how a command ends that may commit
 
--- a command put these questions, was answered by the first failed rule, and left this state
+-- how it ended where these effects were due: all of them were committed, and it was answered by this outcome; or fewer,
+-- and the power was cut in the next one
+abbrev pub IsEnding : List PlainEffect → Outcome → Ending → PlainReply → Type 0
+IsEnding due outcome (Answered reaction finished) reply = (finished ≡ length due) × (outcome ≡ outcome_seen reaction reply)
+IsEnding due outcome (Lost finished) reply = finished < length due
+
+-- the state after it, where it was answered
+abbrev pub IsNext : (ℕ → State) → Ending → Option ChannelState → Type 0
+IsNext next (Answered reaction finished) channel = state_left reaction channel ≡ state_due reaction.rule.0 (next reaction.rule.0)
+IsNext next (Lost finished) channel = Unit {0}
+
+-- a command of a known kind put these questions, committed what was due, was answered by the rules of its kind and those
+-- over the answers, and left this state and this world
+pub record IsEndedByKind (kind : Kind) (old : State) (c : PlainCommand) (asks : List Ask) (ending : Ending) (reply : PlainReply) (before after : World) : Type 0 where
+  pub asked : AreAsked (λ answers. question_by kind_rules (known kind (held before.cells) old c answers)) [] asks
+  pub ended : IsEnding (due_by kind_rules (known kind (held before.cells) old c (answers_of asks)))
+      (outcome_of kind_rules (known kind (held before.cells) old c (answers_of asks))) ending reply
+  pub next : IsNext (λ rule. state_answered rule (Some kind) c (answers_of asks) old) ending old.channel
+  pub leaves : Leaves (due_by kind_rules (known kind (held before.cells) old c (answers_of asks))) (held before.cells) ending before after
+
+-- and so in any channel, with the questions by which the coprocessor's log grew
+pub record Performed (kind : Kind) (session : Session) (c : PlainCommand) (ending : Ending) (reply : PlainReply) (before after : World) : Type 0 where
+  pub asks : List Ask
+  pub were_asked : WereAsked before.copro after.copro asks
+  pub ended : (channel : Option ChannelState) → IsEndedByKind kind (state session channel) c asks ending reply before after
+  pub layout : SameLayout before.cells after.cells
+
+-- what was heard put these questions, committed what was due, was answered by the first failed rule, and left this state
+-- and this world
+pub record IsEndedByRules (old : State) (heard : Heard) (asks : List Ask) (ending : Ending) (reply : PlainReply) (before after : World) : Type 0 where
+  pub asked : AreAsked (λ answers. question (situation (held before.cells) old heard answers)) [] asks
+  pub ended : IsEnding (due (situation (held before.cells) old heard (answers_of asks)))
+      (outcome (situation (held before.cells) old heard (answers_of asks))) ending reply
+  pub next : IsNext (λ rule. state_answered rule (kind_heard old heard) (command_of heard) (answers_of asks) old) ending old.channel
+  pub leaves : Leaves (due (situation (held before.cells) old heard (answers_of asks))) (held before.cells) ending before after
+
+pub record Reacts (session : Session) (c : PlainCommand) (ending : Ending) (reply : PlainReply) (before after : World) : Type 0 where
+  pub asks : List Ask
+  pub were_asked : WereAsked before.copro after.copro asks
+  pub ended : (channel : Option ChannelState) → IsEndedByRules (state session channel) (Command c) asks ending reply before after
+  pub layout : SameLayout before.cells after.cells
+
+-- a refusal before the kind is known, or without one: it puts no question and commits nothing
 pub record Answers (kept : FullRecord) (old : State) (heard : Heard) (asks : List Ask) (reaction : Reaction) (reply : PlainReply) : Type 0 where
   pub asked : AreAsked (λ answers. question (situation kept old heard answers)) [] asks
   pub ended : outcome (situation kept old heard (answers_of asks)) ≡ outcome_seen reaction reply
   pub left : state_left reaction old.channel ≡ state_due reaction.rule.0 (state_answered reaction.rule.0 (kind_heard old heard) (command_of heard) (answers_of asks) old)
 
--- a command put questions, by which the log grew, and was answered by them, in any channel
-pub record Reacts {C : Type 0} (log : C → List Ask) (spare faults : C → ℕ) (told : C → ToldBefore) (before after : C) (kept : FullRecord) (session : Session) (c : PlainCommand) (reaction : Reaction) (reply : PlainReply) : Type 0 where
-  pub asks : List Ask
-  pub were_asked : WereAsked log spare faults told before after asks
-  pub answers : (channel : Option ChannelState) → Answers kept (state session channel) (Command c) asks reaction reply
-
 -- the plain command whose body stands in an exchange, where there is one
 abbrev pub plain_in : Exchange → Option Header → Option PlainCommand
 plain_in exchange plain = option_map (λ header. with_body header exchange.body.items) plain
 
--- bytes were heard, in a channel or without one, and answered
-pub record Responds {C : Type 0} (log : C → List Ask) (spare faults : C → ℕ) (told : C → ToldBefore) (before after : C) (kept : FullRecord) (session : Session) (channel : Option ChannelState) (bytes : List ℕ) (plain : Option PlainCommand) (reaction : Reaction) (reply : PlainReply) : Type 0 where
+-- bytes were heard, in a channel or without one, and the command ended so
+pub record Responds (session : Session) (channel : Option ChannelState) (bytes : List ℕ) (plain : Option PlainCommand) (ending : Ending) (reply : PlainReply) (before after : World) : Type 0 where
   pub heard : Heard
   pub hears : IsHeard channel bytes heard
   pub is_plain : plain ≡ plain_of heard
   pub asks : List Ask
-  pub were_asked : WereAsked log spare faults told before after asks
-  pub answers : Answers kept (state session channel) heard asks reaction reply
+  pub were_asked : WereAsked before.copro after.copro asks
+  pub ended : IsEndedByRules (state session channel) heard asks ending reply before after
+  pub layout : SameLayout before.cells after.cells
+
+-- the rule that a command was answered by; 0 where it was not answered
+abbrev pub rule_of : Ending → ℕ
+rule_of (Answered reaction finished) = reaction.rule.0
+rule_of (Lost finished) = 0
 
 -- the channel while the answer is made: where a protected command was heard, one message later
 abbrev pub heard_in : ℕ → Option ChannelState → Option ChannelState

@@ -1,32 +1,32 @@
 //! The chip, and what it does with the bytes of a command.
-ghost use Rattle.std.specs.Prelude.{◌≡◌, ◌≢◌, ◌≤◌, ◌↔◌, true, false, length, slice_index, Option, Some, None, if◌then◌else◌};
+ghost use Rattle.std.specs.Prelude.{◌≡◌, ◌≢◌, ◌≤◌, ◌↔◌, ℕ, true, false, List, [], ◌∷◌, length, slice_index, Option, Some, None, OnOk, OnErr, if◌then◌else◌};
 ghost use Rattle.std.specs.Option.{option_or};
 ghost use Rattle.arrayvec.specs.ArrayVec.{array_vec_len};
 ghost use Rattle.eid_apdu.specs.Command.{plain_command};
-ghost use Rattle.eid_record.specs.Plain.{FullRecord};
-ghost use Rattle.eid_cells.specs.Device.{WasCut};
-ghost use Rattle.eid_store.specs.Store as stored;
-ghost use Rattle.eid_store.specs.Stands.{stands};
 ghost use Rattle.eid_apdu.specs.Answer.{plain_reply};
-ghost use Rattle.eid_sm.specs.Keys.{ChannelState};
+ghost use Rattle.eid_record.specs.Plain.{FullRecord};
+ghost use Rattle.eid_cells.specs.Device.{Device};
+ghost use Rattle.eid_store.specs.Durable.{Mounts};
+ghost use Rattle.eid_store.specs.Store as stored;
+ghost use Rattle.eid_store.specs.Store.{mount_cost};
+ghost use Rattle.eid_store.specs.Stands.{stands};
 ghost use Rattle.eid_sm.specs.Plain.{plain_of};
 ghost use Rattle.eid_model.specs.Moments.{PoweredOn, PoweredOff, ends_session_by};
-ghost use Rattle.eid_model.specs.Sessions.{ended_run};
 ghost use Rattle.eid_model.specs.Kinds.{goes_on_in_run};
-ghost use Rattle.eid_model.specs.Answers.{status_alone};
 ghost use Rattle.eid_model.specs.Legal.{silent};
 ghost use Rattle.eid_chip.specs.Held.{held};
-ghost use Rattle.eid_chip.specs.States.{next_of, state};
-ghost use Rattle.eid_chip.specs.Steps.{Reacts, Responds, Stepped, heard_in, plain_in, sent_next, state_due, state_left};
+ghost use Rattle.eid_chip.specs.States.{next_of};
+ghost use Rattle.eid_chip.specs.Commits.{IsMounted, world};
+ghost use Rattle.eid_chip.specs.Steps.{Performed, Reacts, Responds, Stepped, heard_in, plain_in, rule_of, sent_next};
 
-use crate::ending::{ends_session, refused};
+use crate::ending::{ends_session, refused, uncommitted};
 use crate::exchange::{Exchange, Handled, HandledIn};
 use crate::naming::kind_of;
 use crate::pace::{
     encrypted_nonce, map_nonce, mutual_authentication, perform_key_agreement, select_pace,
 };
-use crate::reaction::{Reaction, Response};
-use crate::refusal::{LONG_REQUEST, NO_COMMAND, NO_OBJECTS, NO_STEP, Refusal, WRONG_OBJECTS};
+use crate::reaction::{Ending, Reaction, Response};
+use crate::refusal::{LONG_REQUEST, NO_COMMAND, NO_OBJECTS, NO_STEP, WRONG_OBJECTS};
 use crate::running::Running;
 use crate::select::{read_binary, select_application, select_file, select_master_file};
 use crate::session::Session;
@@ -38,6 +38,7 @@ use eid_copro::Coprocessor;
 use eid_model::{Kind, MAX_BODY};
 use eid_sm::{Channel, Header, SmError};
 use eid_store::{MountError, Store};
+use std::marker::Model;
 use std::mem;
 
 /// The longest body of one request, in bytes.
@@ -70,9 +71,9 @@ fn carry_out<E: Eeprom, C: Coprocessor>(
     reply: &mut Reply,
 ) -> Reaction
     requires fits { stored.Fits store.now (E.device cells.now) (E.cells cells.now) }
-    requires room { 2 ≤ C.spare copro.old }
+    requires room { 2 ≤ (C.seen copro.old).spare }
     requires turn { goes_on_in_run kind ≡ true → next_of session.run ≡ Some kind }
-    ensures answers { Stepped C.log C.spare C.faults C.told copro.old copro.new kind (held (E.cells cells.now)) session (plain_command c.now) result (plain_reply reply.new) }
+    ensures answers { Stepped (C.seen copro.old) (C.seen copro.new) kind (held (E.cells cells.now)) session (plain_command c.now) result (plain_reply reply.new) }
     ensures small { array_vec_len reply.new.content ≤ 2048 }
 {
     match kind {
@@ -89,66 +90,88 @@ fn carry_out<E: Eeprom, C: Coprocessor>(
     }
 }
 
-/// Carries a command out, or refuses it by the first failed rule.
-fn react<E: Eeprom, C: Coprocessor>(
+/// Carries out a command of this kind with its commits, or refuses it by the first failed rule of its kind.
+fn perform<E: Eeprom, C: Coprocessor>(
+    kind: Kind,
     session: Session,
-    store: &Store,
-    cells: &E,
+    store: &mut Store,
+    cells: &mut E,
     copro: &mut C,
     c: &Command<'_>,
     reply: &mut Reply,
-) -> Reaction
-    requires fits { stored.Fits store.now (E.device cells.now) (E.cells cells.now) }
-    requires room { 2 ≤ C.spare copro.old }
-    ensures answers { Reacts C.log C.spare C.faults C.told copro.old copro.new (held (E.cells cells.now)) session (plain_command c.now) result (plain_reply reply.new) }
+) -> Ending
+    requires mounted { IsMounted (world (C.seen copro.old) store.old (E.device cells.old) (E.cells cells.old)) }
+    requires room { 2 ≤ (C.seen copro.old).spare }
+    requires turn { goes_on_in_run kind ≡ true → next_of session.run ≡ Some kind }
+    ensures performed { Performed kind session (plain_command c.now) result (plain_reply reply.new)
+        (world (C.seen copro.old) store.old (E.device cells.old) (E.cells cells.old))
+        (world (C.seen copro.new) store.new (E.device cells.new) (E.cells cells.new)) }
+    ensures small { array_vec_len reply.new.content ≤ 2048 }
+{
+    uncommitted(carry_out(kind, session, store, cells, copro, c, reply))
+}
+
+/// Carries a command out, or refuses it by the first failed rule.
+fn react<E: Eeprom, C: Coprocessor>(
+    session: Session,
+    store: &mut Store,
+    cells: &mut E,
+    copro: &mut C,
+    c: &Command<'_>,
+    reply: &mut Reply,
+) -> Ending
+    requires mounted { IsMounted (world (C.seen copro.old) store.old (E.device cells.old) (E.cells cells.old)) }
+    requires room { 2 ≤ (C.seen copro.old).spare }
+    ensures reacts { Reacts session (plain_command c.now) result (plain_reply reply.new)
+        (world (C.seen copro.old) store.old (E.device cells.old) (E.cells cells.old))
+        (world (C.seen copro.new) store.new (E.device cells.new) (E.cells cells.new)) }
     ensures small { array_vec_len reply.new.content ≤ 2048 }
 {
     let kind = match kind_of(c, &session.run) {
         Ok(kind) => kind,
-        Err(refusal) => return refused(refusal, session, reply),
+        Err(refusal) => return uncommitted(refused(refusal, session, reply)),
     };
     if c.body.len() > MAX_REQUEST {
-        return refused(LONG_REQUEST, session, reply);
+        return uncommitted(refused(LONG_REQUEST, session, reply));
     }
-    carry_out(kind, session, store, cells, copro, c, reply)
+    perform(kind, session, store, cells, copro, c, reply)
 }
 
-/// The response where nothing was heard that can be carried out.
-fn not_heard(refusal: Refusal, session: Session, reply: &mut Reply) -> Response
-    ensures plain { result.plain ≡ None }
-    ensures reaction { (result.reaction.rule ≡ refusal.rule) × (plain_reply reply.new ≡ status_alone refusal.status.0) }
-    ensures left { (channel : Option ChannelState) → state_left result.reaction channel ≡ state_due refusal.rule.0 (ended_run (state session channel)) }
-    ensures small { array_vec_len reply.new.content ≤ 2048 }
+/// The response to bytes of which no command was heard.
+fn without_command(reaction: Reaction) -> Response
+    ensures { (result.plain ≡ None) × (result.ending ≡ Ending.Answered reaction 0) }
 {
     Response {
         plain: None,
-        reaction: refused(refusal, session, reply),
+        ending: uncommitted(reaction),
     }
 }
 
 /// Hears the bytes of a command without a channel, and answers them.
 fn respond<E: Eeprom, C: Coprocessor>(
     session: Session,
-    store: &Store,
-    cells: &E,
+    store: &mut Store,
+    cells: &mut E,
     copro: &mut C,
     bytes: &[u8],
     exchange: &mut Exchange,
 ) -> Response
-    requires fits { stored.Fits store.now (E.device cells.now) (E.cells cells.now) }
-    requires room { 2 ≤ C.spare copro.old }
-    ensures response { Responds C.log C.spare C.faults C.told copro.old copro.new (held (E.cells cells.now)) session None bytes.now (plain_in exchange.new result.plain) result.reaction (plain_reply exchange.new.answer) }
+    requires mounted { IsMounted (world (C.seen copro.old) store.old (E.device cells.old) (E.cells cells.old)) }
+    requires room { 2 ≤ (C.seen copro.old).spare }
+    ensures responds { Responds session None bytes.now (plain_in exchange.new result.plain) result.ending (plain_reply exchange.new.answer)
+        (world (C.seen copro.old) store.old (E.device cells.old) (E.cells cells.old))
+        (world (C.seen copro.new) store.new (E.device cells.new) (E.cells cells.new)) }
     ensures small { array_vec_len exchange.new.answer.content ≤ 2048 }
 {
     let Ok(c) = read_command(bytes) else {
-        return not_heard(NO_COMMAND, session, &mut exchange.answer);
+        return without_command(refused(NO_COMMAND, session, &mut exchange.answer));
     };
     if c.body.len() > MAX_BODY {
-        return not_heard(NO_COMMAND, session, &mut exchange.answer);
+        return without_command(refused(NO_COMMAND, session, &mut exchange.answer));
     }
     Response {
         plain: Some(apart(&c, &mut exchange.body)),
-        reaction: react(session, store, cells, copro, &c, &mut exchange.answer),
+        ending: react(session, store, cells, copro, &c, &mut exchange.answer),
     }
 }
 
@@ -156,27 +179,33 @@ fn respond<E: Eeprom, C: Coprocessor>(
 fn respond_in<E: Eeprom, C: Coprocessor>(
     channel: &mut Channel,
     session: Session,
-    store: &Store,
-    cells: &E,
+    store: &mut Store,
+    cells: &mut E,
     copro: &mut C,
     bytes: &[u8],
     exchange: &mut Exchange,
 ) -> Response
-    requires fits { stored.Fits store.now (E.device cells.now) (E.cells cells.now) }
-    requires room { 2 ≤ C.spare copro.old }
-    ensures response { Responds C.log C.spare C.faults C.told copro.old copro.new (held (E.cells cells.now)) session (Some channel.old) bytes.now (plain_in exchange.new result.plain) result.reaction (plain_reply exchange.new.answer) }
-    ensures channel { Some channel.new ≡ heard_in result.reaction.rule.0 (Some channel.old) }
+    requires mounted { IsMounted (world (C.seen copro.old) store.old (E.device cells.old) (E.cells cells.old)) }
+    requires room { 2 ≤ (C.seen copro.old).spare }
+    ensures responds { Responds session (Some channel.old) bytes.now (plain_in exchange.new result.plain) result.ending (plain_reply exchange.new.answer)
+        (world (C.seen copro.old) store.old (E.device cells.old) (E.cells cells.old))
+        (world (C.seen copro.new) store.new (E.device cells.new) (E.cells cells.new)) }
+    ensures channel { Some channel.new ≡ heard_in (rule_of result.ending) (Some channel.old) }
     ensures small { array_vec_len exchange.new.answer.content ≤ 2048 }
 {
     let header = match channel.unwrap(bytes, &mut exchange.body) {
         Ok(header) => header,
-        Err(SmError::Missing) => return not_heard(NO_OBJECTS, session, &mut exchange.answer),
-        Err(SmError::Wrong) => return not_heard(WRONG_OBJECTS, session, &mut exchange.answer),
+        Err(SmError::Missing) => {
+            return without_command(refused(NO_OBJECTS, session, &mut exchange.answer));
+        }
+        Err(SmError::Wrong) => {
+            return without_command(refused(WRONG_OBJECTS, session, &mut exchange.answer));
+        }
     };
     let c = header.with_body(exchange.body.as_slice());
     Response {
         plain: Some(header),
-        reaction: react(session, store, cells, copro, &c, &mut exchange.answer),
+        ending: react(session, store, cells, copro, &c, &mut exchange.answer),
     }
 }
 
@@ -184,16 +213,18 @@ fn respond_in<E: Eeprom, C: Coprocessor>(
 fn respond_any<E: Eeprom, C: Coprocessor>(
     channel: &mut Option<Channel>,
     session: Session,
-    store: &Store,
-    cells: &E,
+    store: &mut Store,
+    cells: &mut E,
     copro: &mut C,
     bytes: &[u8],
     exchange: &mut Exchange,
 ) -> Response
-    requires fits { stored.Fits store.now (E.device cells.now) (E.cells cells.now) }
-    requires room { 2 ≤ C.spare copro.old }
-    ensures response { Responds C.log C.spare C.faults C.told copro.old copro.new (held (E.cells cells.now)) session channel.old bytes.now (plain_in exchange.new result.plain) result.reaction (plain_reply exchange.new.answer) }
-    ensures channel { channel.new ≡ heard_in result.reaction.rule.0 channel.old }
+    requires mounted { IsMounted (world (C.seen copro.old) store.old (E.device cells.old) (E.cells cells.old)) }
+    requires room { 2 ≤ (C.seen copro.old).spare }
+    ensures responds { Responds session channel.old bytes.now (plain_in exchange.new result.plain) result.ending (plain_reply exchange.new.answer)
+        (world (C.seen copro.old) store.old (E.device cells.old) (E.cells cells.old))
+        (world (C.seen copro.new) store.new (E.device cells.new) (E.cells cells.new)) }
+    ensures channel { channel.new ≡ heard_in (rule_of result.ending) channel.old }
     ensures small { array_vec_len exchange.new.answer.content ≤ 2048 }
 {
     match channel {
@@ -231,18 +262,57 @@ fn channel_after(rule: Rule, opened: Option<Channel>, channel: Option<Channel>) 
     }
 }
 
+/// A chip with power after it answered: the answer is written as it is sent, and the channel kept that the
+/// step opened, or the one before.
+fn go_on(
+    reaction: Reaction,
+    store: Store,
+    channel: Option<Channel>,
+    exchange: &mut Exchange,
+) -> Running
+    requires { array_vec_len exchange.old.answer.content ≤ 2048 }
+    ensures sent { exchange.new.sent.items ≡ sent_next channel reaction.rule.0 (plain_reply exchange.old.answer) }
+    ensures said { (exchange.new.answer ≡ exchange.old.answer) × (exchange.new.body ≡ exchange.old.body) }
+    ensures session { (result.session ≡ reaction.session) × (result.store ≡ store) }
+    ensures channel { result.channel ≡ (if ends_session_by reaction.rule.0 then None
+        else option_or reaction.opened (heard_in reaction.rule.0 channel)) }
+{
+    let Reaction {
+        rule,
+        session,
+        opened,
+    } = reaction;
+    let mut channel = channel;
+    send(&mut channel, rule, &exchange.answer, &mut exchange.sent);
+    Running {
+        store,
+        session,
+        channel: channel_after(rule, opened, channel),
+    }
+}
+
 /// A chip. Where it has power it has the store that it mounted and a session.
 #[derive(Drop)]
 pub struct Chip {
     life: Option<Running>,
 }
 
-impl Chip {
-    ghost use Rattle.eid_chip.specs.Fits.{Follows, Handles, IsSound, found, handled, handled_in, is_silent, is_silent_in, is_off};
+impl Model for Chip {
+    ghost use Rattle.std.specs.Option.{option_map};
+    ghost use Rattle.eid_chip.specs.States.{ChipView, living};
 
-    /// A chip without power.
+    ghost Value = { ChipView };
+
+    ghost view = { λ chip. record { life = option_map living chip.life } };
+}
+
+impl Chip {
+    ghost use Rattle.eid_chip.specs.Fits.{Fits, Follows, Handles, IsSound, came, came_in, found, is_silence, is_off, scene};
+
+    /// A chip without power. It fits every journal without moments.
     pub fn new() -> Chip
-        ensures { result.life ≡ None }
+        ensures off { result.life ≡ None }
+        ensures fits { (device : Device) (cells : List ℕ) (opening : FullRecord) → stands cells ≡ Some opening → Fits (scene result device cells) opening [] }
     {
         Chip { life: None }
     }
@@ -254,14 +324,19 @@ impl Chip {
     /// `BadImage` exactly where the cells stand for no record; `Cut` only where the device's count of
     /// cuts rose. The chip is off then.
     pub fn power_on<E: Eeprom>(&mut self, cells: &mut E) -> Result<u32, MountError>
-        ensures follows { result ≢ Err MountError.BadImage → Follows self.old (E.device cells.old) (E.cells cells.old) self.new (E.device cells.new) (E.cells cells.new) (silent (PoweredOn (found result))) }
-        ensures sound { IsSound self.new (E.device cells.new) (E.cells cells.new) }
+        ensures follows { result ≢ Err MountError.BadImage → Follows (scene self.old (E.device cells.old) (E.cells cells.old))
+            (scene self.new (E.device cells.new) (E.cells cells.new)) (silent (PoweredOn (found result))) }
+        // whatever the chip was, it fits the journal of this one power-on
+        ensures begins { OnOk result ((opening : FullRecord) → stands (E.cells cells.old) ≡ Some opening
+            → Fits (scene self.new (E.device cells.new) (E.cells cells.new)) opening (silent (PoweredOn (found result)) ∷ [])) }
+        ensures sound { IsSound (scene self.new (E.device cells.new) (E.cells cells.new)) }
+        ensures on { OnOk result (is_off self.new ≡ false) }
+        ensures off { OnErr result (self.new.life ≡ None) }
         ensures bad_image { (result ≡ Err MountError.BadImage) ↔ (stands (E.cells cells.old) ≡ None) }
+        ensures untouched { result ≡ Err MountError.BadImage → E.cells cells.new ≡ E.cells cells.old }
         ensures same { stands (E.cells cells.new) ≡ stands (E.cells cells.old) }
         ensures layout { slice_index (E.cells cells.new) 0 ≡ slice_index (E.cells cells.old) 0 }
-        ensures cut { result ≡ Err MountError.Cut → WasCut (record (E.device cells.old) { has_power = true }) (E.device cells.new) }
-        // Layout 1 is mounted without a write.
-        ensures no_cut { slice_index (E.cells cells.old) 0 ≡ 1 → result ≢ Err MountError.Cut }
+        ensures device { Mounts (mount_cost (E.cells cells.old)) (record (E.device cells.old) { has_power = true }) (E.device cells.new) result }
     {
         cells.power(true);
         match Store::mount(cells) {
@@ -283,8 +358,9 @@ impl Chip {
 
     /// Takes power away from the device.
     pub fn power_off<E: Eeprom>(&mut self, cells: &mut E)
-        ensures follows { Follows self.old (E.device cells.old) (E.cells cells.old) self.new (E.device cells.new) (E.cells cells.new) (silent PoweredOff) }
-        ensures sound { IsSound self.new (E.device cells.new) (E.cells cells.new) }
+        ensures follows { Follows (scene self.old (E.device cells.old) (E.cells cells.old))
+            (scene self.new (E.device cells.new) (E.cells cells.new)) (silent PoweredOff) }
+        ensures off { self.new.life ≡ None }
         ensures same { E.cells cells.new ≡ E.cells cells.old }
         ensures device { E.device cells.new ≡ record (E.device cells.old) { has_power = false } }
     {
@@ -293,20 +369,18 @@ impl Chip {
     }
 
     /// Handles the bytes of a command: answers them by the first failed rule, or carries them out.
-    /// `Silent` comes exactly where the chip is off. The coprocessor's log grows by the questions of the
-    /// command.
+    /// `Silent` comes exactly where the chip is off, `Lost` only where the power was cut in a commit. The
+    /// coprocessor's log grows by the questions of the command.
     pub fn handle<E: Eeprom, C: Coprocessor>(
         &mut self,
         bytes: &[u8],
         cells: &mut E,
         copro: &mut C,
     ) -> Handled
-        requires sound { IsSound self.old (E.device cells.old) (E.cells cells.old) }
-        requires room { 2 ≤ C.spare copro.old }
-        ensures handles { Handles C.log C.spare C.faults C.told copro.old copro.new self.old (E.device cells.old) (E.cells cells.old) self.new (E.device cells.new) (E.cells cells.new) (is_silent result) (λ asks. handled bytes.now asks result) }
-        ensures sound { IsSound self.new (E.device cells.new) (E.cells cells.new) }
-        ensures silent { is_silent result ≡ is_off self.old }
-        ensures same { E.cells cells.new ≡ E.cells cells.old }
+        requires sound { IsSound (scene self.old (E.device cells.old) (E.cells cells.old)) }
+        requires room { 2 ≤ (C.seen copro.old).spare }
+        ensures { Handles (C.seen copro.old) (C.seen copro.new) (scene self.old (E.device cells.old) (E.cells cells.old))
+            (scene self.new (E.device cells.new) (E.cells cells.new)) bytes.now (came result) }
     {
         let mut exchange = Exchange::new();
         let came = self.handle_in(bytes, cells, copro, &mut exchange);
@@ -322,46 +396,40 @@ impl Chip {
         copro: &mut C,
         exchange: &mut Exchange,
     ) -> HandledIn
-        requires sound { IsSound self.old (E.device cells.old) (E.cells cells.old) }
-        requires room { 2 ≤ C.spare copro.old }
-        ensures handles { Handles C.log C.spare C.faults C.told copro.old copro.new self.old (E.device cells.old) (E.cells cells.old) self.new (E.device cells.new) (E.cells cells.new) (is_silent_in result) (λ asks. handled_in bytes.now asks result exchange.new) }
-        ensures sound { IsSound self.new (E.device cells.new) (E.cells cells.new) }
-        ensures silent { is_silent_in result ≡ is_off self.old }
-        ensures unsaid { is_silent_in result ≡ true → exchange.new ≡ exchange.old }
-        ensures same { E.cells cells.new ≡ E.cells cells.old }
+        requires sound { IsSound (scene self.old (E.device cells.old) (E.cells cells.old)) }
+        requires room { 2 ≤ (C.seen copro.old).spare }
+        ensures handles { Handles (C.seen copro.old) (C.seen copro.new) (scene self.old (E.device cells.old) (E.cells cells.old))
+            (scene self.new (E.device cells.new) (E.cells cells.new)) bytes.now (came_in exchange.new result) }
+        ensures unsaid { result ≡ HandledIn.Silent → exchange.new ≡ exchange.old }
     {
         let Some(running) = mem::replace(&mut self.life, None) else {
             return HandledIn::Silent;
         };
         let Running {
-            store,
+            mut store,
             session,
             mut channel,
         } = running;
-        let Response { plain, reaction } = respond_any(
+        let Response { plain, ending } = respond_any(
             &mut channel,
             session,
-            &store,
+            &mut store,
             cells,
             copro,
             bytes,
             exchange,
         );
-        let Reaction {
-            rule,
-            session,
-            opened,
-        } = reaction;
-        send(&mut channel, rule, &exchange.answer, &mut exchange.sent);
-        self.life = Some(Running {
-            store,
-            session,
-            channel: channel_after(rule, opened, channel),
-        });
-        HandledIn::Answered {
-            plain,
-            finished: 0,
-            rule,
+        match ending {
+            Ending::Answered { reaction, finished } => {
+                let rule = reaction.rule;
+                self.life = Some(go_on(reaction, store, channel, exchange));
+                HandledIn::Answered {
+                    plain,
+                    finished,
+                    rule,
+                }
+            }
+            Ending::Lost { finished } => HandledIn::Lost { plain, finished },
         }
     }
 }

@@ -4,12 +4,12 @@ ghost use Rattle.arrayvec.specs.ArrayVec.{array_vec_len};
 ghost use Rattle.eid_apdu.specs.Answer.{plain_reply};
 ghost use Rattle.eid_model.specs.Answers.{status_alone};
 ghost use Rattle.eid_model.specs.Moments.{ends_session_by};
-ghost use Rattle.eid_model.specs.Sessions.{ended_run};
+ghost use Rattle.eid_chip.specs.Transitions.{state_refused};
 ghost use Rattle.eid_sm.specs.Keys.{ChannelState};
 ghost use Rattle.eid_chip.specs.States.{state};
 ghost use Rattle.eid_chip.specs.Steps.{state_left, state_due};
 
-use crate::reaction::Reaction;
+use crate::reaction::{Ending, Reaction};
 use crate::refusal::Refusal;
 use crate::session::Session;
 use eid_apdu::Reply;
@@ -37,7 +37,7 @@ pub fn refused(refusal: Refusal, session: Session, reply: &mut Reply) -> Reactio
     ensures rule { result.rule ≡ refusal.rule }
     ensures reply { plain_reply reply.new ≡ status_alone refusal.status.0 }
     ensures small { array_vec_len reply.new.content ≤ 2048 }
-    ensures left { (channel : Option ChannelState) → state_left result channel ≡ state_due refusal.rule.0 (ended_run (state session channel)) }
+    ensures left { (channel : Option ChannelState) → state_left result channel ≡ state_due refusal.rule.0 (state_refused (state session channel)) }
 {
     put_status(refusal.status, reply);
     let session = if ends_session(refusal.rule) {
@@ -69,5 +69,15 @@ pub fn answered(session: Session) -> Reaction
         rule: Rule(0),
         session,
         opened: None,
+    }
+}
+
+/// How a command ends that commits nothing.
+pub fn uncommitted(reaction: Reaction) -> Ending
+    ensures { result ≡ Ending.Answered reaction 0 }
+{
+    Ending::Answered {
+        reaction,
+        finished: 0,
     }
 }

@@ -55,6 +55,13 @@ pub enum HandledIn {
         /// The first failed rule, or 0.
         rule: Rule,
     },
+    /// The power was cut in a commit.
+    Lost {
+        /// The plain command without its body, where the bytes are one.
+        plain: Option<Header>,
+        /// How many commits finished before it.
+        finished: u8,
+    },
 }
 
 /// What came of the bytes of a command.
@@ -74,6 +81,13 @@ pub enum Handled {
         answer: Reply,
         /// The bytes sent.
         sent: ArrayVec<u8, MAX_BODY>,
+    },
+    /// The power was cut in a commit.
+    Lost {
+        /// The plain command, where the bytes are one.
+        plain: Option<Plain>,
+        /// How many commits finished before it.
+        finished: u8,
     },
 }
 
@@ -102,14 +116,11 @@ fn own_plain(plain: Option<Header>, body: ArrayVec<u8, MAX_BODY>) -> Option<Plai
 }
 
 impl HandledIn {
-    ghost use Rattle.std.specs.Prelude.{ℕ, List};
-    ghost use Rattle.eid_copro.specs.declared.ask.Ask.{Ask};
-    ghost use Rattle.eid_chip.specs.Fits.{handled, handled_in, is_silent, is_silent_in};
+    ghost use Rattle.eid_chip.specs.Fits.{came, came_in};
 
     /// The same with the bytes of its exchange.
     pub fn with(self, exchange: Exchange) -> Handled
-        ensures same { (bytes : List ℕ) (asks : List Ask) → handled bytes asks result ≡ handled_in bytes asks self exchange }
-        ensures silent { is_silent result ≡ is_silent_in self }
+        ensures { came result ≡ came_in exchange self }
     {
         match self {
             HandledIn::Silent => Handled::Silent,
@@ -123,6 +134,10 @@ impl HandledIn {
                 rule,
                 answer: exchange.answer,
                 sent: exchange.sent,
+            },
+            HandledIn::Lost { plain, finished } => Handled::Lost {
+                plain: own_plain(plain, exchange.body),
+                finished,
             },
         }
     }

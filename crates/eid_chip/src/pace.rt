@@ -11,7 +11,7 @@ ghost use Rattle.eid_sm.specs.Keys.{ChannelState};
 ghost use Rattle.eid_store.specs.Store as stored;
 ghost use Rattle.eid_chip.specs.Held.{held};
 ghost use Rattle.eid_pace.specs.View.{done_view};
-ghost use Rattle.eid_model.specs.Sessions.{channel_after, memory_of};
+ghost use Rattle.eid_model.specs.Sessions.{channel_after, keys_of, memory_of};
 ghost use Rattle.eid_chip.specs.States.{memory, next_of, state};
 ghost use Rattle.eid_chip.specs.Steps.{Stepped, Told};
 
@@ -26,7 +26,7 @@ use eid_base::Rule;
 use eid_cells::Eeprom;
 use eid_copro::Coprocessor;
 use eid_model::Kind;
-use eid_pace::{Chosen, Done};
+use eid_pace::{Chosen, Done, rules};
 use eid_record::Record;
 use eid_sm::Channel;
 use eid_store::Store;
@@ -45,7 +45,7 @@ pub fn select_pace(session: Session, c: &Command<'_>, reply: &mut Reply) -> Reac
             },
             reply,
         ),
-        Err(Rule(10)) => refused(BODY_FORM, session, reply),
+        Err(rules::BODY_FORM) => refused(BODY_FORM, session, reply),
         Err(_) => refused(NO_PASSWORD, session, reply),
     }
 }
@@ -61,9 +61,9 @@ pub fn encrypted_nonce<E: Eeprom, C: Coprocessor>(
     reply: &mut Reply,
 ) -> Reaction
     requires fits { stored.Fits store.now (E.device cells.now) (E.cells cells.now) }
-    requires room { 2 ≤ C.spare copro.old }
+    requires room { 2 ≤ (C.seen copro.old).spare }
     requires turn { next_of session.run ≡ Some Kind.EncryptedNonce }
-    ensures told { Stepped C.log C.spare C.faults C.told copro.old copro.new Kind.EncryptedNonce (held (E.cells cells.now)) session (plain_command c.now) result (plain_reply reply.new) }
+    ensures told { Stepped (C.seen copro.old) (C.seen copro.new) Kind.EncryptedNonce (held (E.cells cells.now)) session (plain_command c.now) result (plain_reply reply.new) }
     ensures small { array_vec_len reply.new.content ≤ 2048 }
 {
     let _ = cells;
@@ -96,9 +96,9 @@ pub fn map_nonce<C: Coprocessor>(
     c: &Command<'_>,
     reply: &mut Reply,
 ) -> Reaction
-    requires room { 2 ≤ C.spare copro.old }
+    requires room { 2 ≤ (C.seen copro.old).spare }
     requires turn { next_of session.run ≡ Some Kind.MapNonce }
-    ensures told { (kept : FullRecord) → Stepped C.log C.spare C.faults C.told copro.old copro.new Kind.MapNonce kept session (plain_command c.now) result (plain_reply reply.new) }
+    ensures told { (kept : FullRecord) → Stepped (C.seen copro.old) (C.seen copro.new) Kind.MapNonce kept session (plain_command c.now) result (plain_reply reply.new) }
     ensures small { array_vec_len reply.new.content ≤ 2048 }
 {
     let Some(peer) = point_in(c.body, 0x81) else {
@@ -117,7 +117,7 @@ pub fn map_nonce<C: Coprocessor>(
                 memory,
             })
         }
-        Err(Rule(52)) => refused(NO_POINT, idle(memory), reply),
+        Err(rules::NO_POINT) => refused(NO_POINT, idle(memory), reply),
         Err(_) => refused(FAULT, idle(memory), reply),
     }
 }
@@ -131,9 +131,9 @@ pub fn perform_key_agreement<C: Coprocessor>(
     c: &Command<'_>,
     reply: &mut Reply,
 ) -> Reaction
-    requires room { 2 ≤ C.spare copro.old }
+    requires room { 2 ≤ (C.seen copro.old).spare }
     requires turn { next_of session.run ≡ Some Kind.PerformKeyAgreement }
-    ensures told { (kept : FullRecord) → Stepped C.log C.spare C.faults C.told copro.old copro.new Kind.PerformKeyAgreement kept session (plain_command c.now) result (plain_reply reply.new) }
+    ensures told { (kept : FullRecord) → Stepped (C.seen copro.old) (C.seen copro.new) Kind.PerformKeyAgreement kept session (plain_command c.now) result (plain_reply reply.new) }
     ensures small { array_vec_len reply.new.content ≤ 2048 }
 {
     let Some(peer) = point_in(c.body, 0x83) else {
@@ -152,8 +152,8 @@ pub fn perform_key_agreement<C: Coprocessor>(
                 memory,
             })
         }
-        Err(Rule(51)) => refused(SAME_POINT, idle(memory), reply),
-        Err(Rule(52)) => refused(NO_POINT, idle(memory), reply),
+        Err(rules::SAME_POINT) => refused(SAME_POINT, idle(memory), reply),
+        Err(rules::NO_POINT) => refused(NO_POINT, idle(memory), reply),
         Err(_) => refused(FAULT, idle(memory), reply),
     }
 }
@@ -195,7 +195,7 @@ fn last_pace(done: &Done) -> LastPace
 
 /// The channel that a PACE opens.
 fn channel_of(done: &Done) -> Channel
-    ensures { result ≡ channel_after 0 (done_view done.now) }
+    ensures { result ≡ channel_after 0 (keys_of (done_view done.now)) }
 {
     let enc = done.enc;
     let mac = done.mac;

@@ -1,10 +1,10 @@
-//! How a step ends.
+//! How a command ends.
 use crate::session::Session;
 use eid_base::Rule;
 use eid_sm::{Channel, Header};
 
-/// The first failed rule, or 0, the session after the step, and the channel that it opened. The answer
-/// stands beside it.
+/// How a command was answered: the first failed rule, or 0, the session after it, and the channel that it
+/// opened. The answer stands beside it.
 #[derive(Drop)]
 pub struct Reaction {
     pub rule: Rule,
@@ -12,9 +12,26 @@ pub struct Reaction {
     pub opened: Option<Channel>,
 }
 
+/// How a command ended that may commit.
+#[derive(Drop)]
+pub enum Ending {
+    /// It was answered, after all commits that were due.
+    Answered {
+        /// How.
+        reaction: Reaction,
+        /// How many commits finished.
+        finished: u8,
+    },
+    /// The power was cut in a commit.
+    Lost {
+        /// How many commits finished before it.
+        finished: u8,
+    },
+}
+
 /// What was heard, without its body, and how it ended.
 #[derive(Drop)]
 pub struct Response {
     pub plain: Option<Header>,
-    pub reaction: Reaction,
+    pub ending: Ending,
 }

@@ -1,15 +1,14 @@
 //! What a session leaves from one command to the next.
-ghost use Rattle.std.specs.Prelude.{◌≡◌, Option, None};
-ghost use Rattle.eid_sm.specs.Keys.{ChannelState};
-ghost use Rattle.eid_model.specs.Sessions.{fresh};
-ghost use Rattle.eid_chip.specs.States.{state, without_run};
+ghost use Rattle.std.specs.Prelude.{◌≡◌};
+ghost use Rattle.eid_record.specs.declared.fields.Password.TheVariants.{Can};
+ghost use Rattle.eid_chip.specs.Passwords.{password_of};
 
 use eid_bits::Template;
 use eid_pace::{Agreed, Chosen, Mapped, NonceSent};
 use eid_record::{FileNo, Password};
 
 /// Where a run stands. The steps of PACE consume what the step before them left.
-#[derive(Debug, Drop)]
+#[derive(Drop)]
 pub enum Run {
     /// There is no run.
     Idle,
@@ -46,15 +45,22 @@ pub struct Memory {
 }
 
 /// The session of a chip with power.
-#[derive(Debug, Drop)]
+#[derive(Drop)]
 pub struct Session {
     /// Where the run stands.
     pub run: Run,
     /// What is kept beside it.
     pub memory: Memory,
+    // So far no other password can be chosen.
+    pub ghost can_alone: { password_of run ≡ Can },
 }
 
 impl Session {
+    ghost use Rattle.std.specs.Prelude.{Option, None};
+    ghost use Rattle.eid_sm.specs.Keys.{ChannelState};
+    ghost use Rattle.eid_model.specs.Sessions.{fresh};
+    ghost use Rattle.eid_chip.specs.States.{state, without_run};
+
     /// The session that power begins.
     pub fn new() -> Session
         ensures { state result None ≡ fresh }

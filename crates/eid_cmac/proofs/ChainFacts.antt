@@ -80,17 +80,17 @@ last_padded key bytes short =
     let no : (length bytes == 16) ≡ false = ne_eqb (length bytes) 16 (omega arith) in
     rw no refl
 
-pub code_whole : (key state summed m subkey : List ℕ) (held : ℕ) → Holds key state held m → held ≡ 16 → subkey ≡ first_subkey key
+pub mac_whole : (key state summed m subkey : List ℕ) (held : ℕ) → Holds key state held m → held ≡ 16 → subkey ≡ first_subkey key
     → summed ≡ xor_block state (replicate 0 0 ++ subkey) → cipher key summed ≡ cmac key m
 unfolding cmac
-code_whole key state summed m subkey held h whole ek es =
+mac_whole key state summed m subkey held h whole ek es =
     rw (last_whole key (last_bytes m) (sym h.count ∙ whole), ← xor_block_assoc (chain key m (blocks_before m)) (last_bytes m) (first_subkey key), ← h.added, ← ek)
     (ap (cipher key) es)
 
-pub code_padded : (key state marked summed m subkey : List ℕ) (held : ℕ) → Holds key state held m → held < 16 → subkey ≡ second_subkey key
+pub mac_padded : (key state marked summed m subkey : List ℕ) (held : ℕ) → Holds key state held m → held < 16 → subkey ≡ second_subkey key
     → marked ≡ xor_block state (replicate held 0 ++ (0x80 ∷ [])) → summed ≡ xor_block marked (replicate 0 0 ++ subkey) → cipher key summed ≡ cmac key m
 unfolding cmac
-code_padded key state marked summed m subkey held h short ek em es =
+mac_padded key state marked summed m subkey held h short ek em es =
     let size : length (last_bytes m) < 16 = rw (← h.count) short in
     let x : List ℕ = chain key m (blocks_before m) in
     let b : List ℕ = last_bytes m in

@@ -1,6 +1,7 @@
 -- What a padded string looks like.
 use Rattle.std.proofs.Common.{◌≡◌, ◌≢◌, ℕ, suc, ◌+◌, ◌-◌, ◌%◌, ◌<◌, ◌≤◌, List, ◌∷◌, length, take, drop, replicate, get_or, refl, sym, ap, ◌∙◌, arith, length-append, inl, inr}
 use Rattle.std.proofs.lemmas.List.{take-replicate, length-replicate, take-append-drop, length-take-le, drop_more, get_or-append_right, get_or-replicate, get_or_past, get_or-drop, length-drop}
+use Rattle.std.proofs.Math.Seq.{take-append_seam}
 use Rattle.std.proofs.lemmas.Grind.{same_number_lists}
 use Rattle.std.proofs.lemmas.Bool.{cases_lt}
 use Rattle.eid_cmac.specs.Padding.{padding, padded}
@@ -70,3 +71,14 @@ pub none_padded : (bytes : List ℕ) (n : ℕ) → PaddedAt bytes n → ((i : �
 none_padded bytes n p all =
     let e : ◌≡◌ {A = ℕ} 0x80 0 = sym p.mark ∙ all n in
     absurd (omega arith)
+
+pub one_padded : (a b : List ℕ) → padded a ≡ padded b → a ≡ b
+one_padded a b e =
+    let first = padded_at (padded a) a refl in
+    let second = padded_at (padded a) b e in
+    let marked : get_or (padded a) (length b) 0 ≢ 0 = λ none.
+    let zero : ◌≡◌ {A = ℕ} 0x80 0 = sym second.mark ∙ none in
+    absurd (omega arith) in
+    let size : length b ≡ length a = padded_once (padded a) (length a) (length b) first marked second.after in
+    let front : take (length b) (padded a) ≡ b = ap (λ (s : List ℕ). take (length b) s) e ∙ take-append_seam b (padding (length b)) in
+    sym (take-append_seam a (padding (length a))) ∙ ap (λ n. take n (padded a)) (sym size) ∙ front

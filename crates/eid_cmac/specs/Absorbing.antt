@@ -1,4 +1,4 @@
--- A message that is taken piece by piece.
+-- Inside: a message that is taken piece by piece. Only private functions cite this.
 use Rattle.std.specs.Prelude.{◌≡◌, ℕ, List, length}
 use Rattle.eid_aes.specs.Cipher.{xor_block}
 use Rattle.eid_cmac.specs.Cmac.{chain, blocks_before, last_bytes}

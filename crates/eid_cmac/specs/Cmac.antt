@@ -41,10 +41,10 @@ last_block key bytes =
     if length bytes == 16 then xor_block bytes (first_subkey key)
     else xor_block (padded bytes) (second_subkey key)
 
--- the code of a message
+-- the MAC of a message
 unfoldable pub cmac : List ℕ → List ℕ → List ℕ
 cmac key message = cipher key (xor_block (chain key message (blocks_before message)) (last_block key (last_bytes message)))
 
--- the first 8 bytes of the code, which secure messaging and the tokens carry (BSI TR-03110-3)
+-- the first 8 bytes of the MAC, which secure messaging and the tokens carry (BSI TR-03110-3)
 abbrev pub mac8 : List ℕ → List ℕ → List ℕ
 mac8 key message = take 8 (cmac key message)

@@ -3,8 +3,8 @@ ghost use Rattle.eid_cmac.specs.Derivation.{derived};
 
 use sha1::Sha1;
 
-/// The key of 16 bytes that a shared secret and a nonce, which may be empty, give under a number:
-/// 1 for encryption, 2 for the code, 3 for a password (BSI TR-03110-3).
+/// The AES-128 key that a shared secret and a nonce, which may be empty, give under a number: 1 for
+/// encryption, 2 for MACs, 3 for a password (BSI TR-03110-3, key derivation function).
 pub fn derive(secret: &[u8], nonce: &[u8], which: u32) -> [u8; 16]
     ensures { result ≡ derived secret.now nonce.now which }
 {
@@ -13,7 +13,5 @@ pub fn derive(secret: &[u8], nonce: &[u8], which: u32) -> [u8; 16]
     hasher.update(nonce);
     hasher.update(&which.to_be_bytes());
     let digest = hasher.finalize();
-    let mut key = [0; 16];
-    key.copy_from_slice(&digest[..16]);
-    key
+    *digest.first_chunk::<16>().unwrap()
 }

@@ -4,10 +4,8 @@
 
 mod derivation;
 mod mac;
-mod padding;
-#[cfg(test)]
-mod tests;
+mod whole_blocks;
 
 pub use derivation::derive;
-pub use mac::cmac;
-pub use padding::{pad, unpad};
+pub use mac::{cmac, mac8};
+pub use whole_blocks::{law_one_padded, pad, padding, unpad};

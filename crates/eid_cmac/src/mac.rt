@@ -1,11 +1,11 @@
 ghost use Rattle.std.specs.Prelude.{◌≡◌, ℕ, ◌+◌, ◌≤◌, List, [], ◌++◌, length, replicate};
 ghost use Rattle.eid_aes.specs.Cipher.{xor_block};
-ghost use Rattle.eid_cmac.specs.Cmac.{doubled, cmac};
+ghost use Rattle.eid_cmac.specs.Cmac.{doubled, cmac, mac8};
 ghost use Rattle.eid_cmac.specs.Absorbing.{Holds};
 
 use eid_aes::Aes;
 
-/// The code of 16 bytes of a message that comes in three pieces (AES-CMAC, RFC 4493).
+/// The MAC, 16 bytes, of a message that comes in three pieces (AES-CMAC, RFC 4493; NIST SP 800-38B).
 pub fn cmac<const ROUNDS: usize>(
     key: &Aes<ROUNDS>,
     first: &[u8],
@@ -19,6 +19,19 @@ pub fn cmac<const ROUNDS: usize>(
     message.absorb(key, second);
     message.absorb(key, third);
     message.finish(key)
+}
+
+/// The first 8 bytes of the MAC of a message that comes in three pieces, as secure messaging and the
+/// authentication tokens carry it (BSI TR-03110-3).
+pub fn mac8<const ROUNDS: usize>(
+    key: &Aes<ROUNDS>,
+    first: &[u8],
+    second: &[u8],
+    third: &[u8],
+) -> [u8; 8]
+    ensures { result ≡ mac8 key.now (first.now ++ second.now ++ third.now) }
+{
+    *cmac(key, first, second, third).first_chunk::<8>().unwrap()
 }
 
 // A message taken so far: the chain with the bytes of the last block added, and their number,
@@ -56,7 +69,7 @@ impl Absorbed {
         }
     }
 
-    // The code of the message.
+    // The MAC of the message.
     fn finish<const ROUNDS: usize>(self, key: &Aes<ROUNDS>) -> [u8; 16]
         ensures { (m : List ℕ) → Holds key.now self.state self.held m → result ≡ cmac key.now m }
     {

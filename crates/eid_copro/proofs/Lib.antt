@@ -1,3 +1,4 @@
 pub mod Sources
 pub mod Cuts
 pub mod TextLines
+pub mod Asking

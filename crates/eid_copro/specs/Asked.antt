@@ -1,8 +1,8 @@
 -- What a question does to a coprocessor. This project's own.
 use Rattle.std.specs.Prelude.{◌≡◌, ℕ, ◌+◌, ◌≤◌, List, [], ◌∷◌, ◌++◌, Bool, Option, Some, None, Result, Ok, Err}
 use Rattle.eid_base.specs.Faults.{Rose}
-use Rattle.eid_copro.specs.Told.{Told, IsAsTold}
-use Rattle.eid_copro.specs.declared.ask.Ask.{Ask}
+use Rattle.eid_copro.specs.Seen.{CoproSeen}
+use Rattle.eid_copro.specs.Told.{IsAsTold}
 use Rattle.eid_copro.specs.declared.ask.Question.{Question}
 use Rattle.eid_copro.specs.declared.ask.Answer.{Answer}
 use Rattle.eid_copro.specs.declared.ask.Answer.TheVariants as answers
@@ -10,13 +10,13 @@ use Rattle.eid_copro.specs.declared.coprocessor.CoproFault.{CoproFault}
 
 -- the question and its answer are logged, room for one ask is used, the answer is as told, and a
 -- fault has a cause
-pub record Asked {C : Type 0} (log : C → List Ask) (spare faults : C → ℕ) (told : C → Told) (old new : C) (question : Question) (answer : Answer) : Type 0 where
-  pub logged : log new ≡ log old ++ record { question = question; answer = answer } ∷ []
-  pub spent : spare new + 1 ≡ spare old
-  pub same_told : told new ≡ told old
-  pub as_told : IsAsTold (told old) (log old) question answer
-  pub later : faults old ≤ faults new
-  pub cause : answer ≡ answers.Fault → Rose (faults old) (faults new)
+pub record Asked (old new : CoproSeen) (question : Question) (answer : Answer) : Type 0 where
+  pub logged : new.log ≡ old.log ++ record { question = question; answer = answer } ∷ []
+  pub spent : new.spare + 1 ≡ old.spare
+  pub same_told : new.told ≡ old.told
+  pub as_told : IsAsTold old.told old.log question answer
+  pub later : old.faults ≤ new.faults
+  pub cause : answer ≡ answers.Fault → Rose old.faults new.faults
 
 -- the answers that the results of the calls stand for
 abbrev pub nonce_answer : Result (List ℕ) CoproFault → Answer

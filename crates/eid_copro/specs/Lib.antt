@@ -1,9 +1,11 @@
 pub mod Asks
 pub mod Asked
+pub mod Asking
 pub mod Numbers
 pub mod Model
 pub mod Script
 pub mod Told
+pub mod Seen
 pub mod ModelSeen
 pub mod ScriptSeen
 pub mod AnySeen

@@ -1,7 +1,8 @@
 -- Answers as lines of text (this project's own): `nonce HEX` (16 bytes), `challenge HEX` (8),
 -- `pair SECRET PUBLIC` (32 and 65), `map POINT` (65) or `map none`, `agree HEX` (32) or `agree none`,
 -- `verify yes`, `verify no`, `sign HEX` (64), `fault`.
-use Rattle.std.specs.Prelude.{ℕ, ◌+◌, ◌==◌, Bool, true, false, List, [], ◌∷◌, length, if◌then◌else◌, nat_lt, codes, Option, Some, None, option_map, option_and_then, Result, Ok, Err}
+use Rattle.std.specs.Prelude.{ℕ, ◌+◌, ◌==◌, Bool, true, false, List, [], ◌∷◌, length, if◌then◌else◌, nat_lt, codes}
+use Rattle.std.specs.Prelude.{Option, Some, None, option_map, option_and_then, Result, Ok, Err}
 use Rattle.std.specs.List.{before_first, after_first, slice_split}
 use Rattle.std.specs.Result.{result_ok}
 use Rattle.std.specs.Str.{bytes_eq}

@@ -1,18 +1,7 @@
--- What the model coprocessor shows.
-use Rattle.std.specs.Prelude.{ℕ, List}
-use Rattle.eid_copro.specs.Told.{Told, Start}
-use Rattle.eid_copro.specs.declared.ask.Ask.{Ask}
+-- What the model coprocessor shows. It never fails.
+use Rattle.eid_copro.specs.Seen.{CoproSeen}
+use Rattle.eid_copro.specs.Told.{Start}
 use Rattle.eid_copro.specs.declared.model.ModelCoprocessor.{ModelCoprocessor}
 
-abbrev pub model_log : ModelCoprocessor → List Ask
-model_log model = model.log.asks.items
-
-abbrev pub model_spare : ModelCoprocessor → ℕ
-model_spare model = model.log.spare
-
--- it never fails
-abbrev pub model_faults : ModelCoprocessor → ℕ
-model_faults model = 0
-
-abbrev pub model_told : ModelCoprocessor → Told
-model_told model = Start model.start
+abbrev pub model_seen : ModelCoprocessor → CoproSeen
+model_seen model = record { log = model.log.asks.items; spare = model.log.spare; faults = 0; told = Start model.start }

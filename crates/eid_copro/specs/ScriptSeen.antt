@@ -1,22 +1,23 @@
--- What the scripted coprocessor shows.
-use Rattle.std.specs.Prelude.{ℕ, List}
-use Rattle.eid_copro.specs.Told.{Told, Listed}
-use Rattle.eid_copro.specs.declared.ask.Ask.{Ask}
+-- What the scripted coprocessor shows, and the answers that it was given.
+use Rattle.std.specs.Prelude.{List}
+use Rattle.eid_copro.specs.Script.{script_answer}
+use Rattle.eid_copro.specs.Seen.{CoproSeen}
+use Rattle.eid_copro.specs.Told.{Listed}
 use Rattle.eid_copro.specs.declared.ask.Answer.{Answer}
+use Rattle.eid_copro.specs.declared.ask.Question.{Question}
 use Rattle.eid_copro.specs.declared.script.ScriptCoprocessor.{ScriptCoprocessor}
 
-abbrev pub script_log : ScriptCoprocessor → List Ask
-script_log script = script.log.asks.items
-
-abbrev pub script_spare : ScriptCoprocessor → ℕ
-script_spare script = script.log.spare
-
-abbrev pub script_faults : ScriptCoprocessor → ℕ
-script_faults script = script.faults
-
--- the answers that it was given
 abbrev pub script_list : ScriptCoprocessor → List Answer
 script_list script = script.answers.items
 
-abbrev pub script_told : ScriptCoprocessor → Told
-script_told script = Listed (script_list script)
+abbrev pub script_seen : ScriptCoprocessor → CoproSeen
+script_seen script = record {
+  log = script.log.asks.items;
+  spare = script.log.spare;
+  faults = script.faults;
+  told = Listed (script_list script);
+}
+
+-- what it answers next, if it is asked that
+abbrev pub script_next : ScriptCoprocessor → Question → Answer
+script_next script question = script_answer (script_list script) (script_seen script).log question

@@ -12,16 +12,10 @@ pub enum AnyCopro {
 }
 
 impl Coprocessor for AnyCopro {
-    ghost use Rattle.eid_copro.specs.AnySeen.{any_log, any_spare, any_faults, any_told};
+    ghost use Rattle.eid_copro.specs.AnySeen.{any_seen};
     ghost use Rattle.eid_copro.specs.declared.any.AnyCopro.TheVariants.{Model, Script};
 
-    ghost log = { any_log };
-
-    ghost spare = { any_spare };
-
-    ghost faults = { any_faults };
-
-    ghost told = { any_told };
+    ghost seen = { any_seen };
 
     fn make_room(&mut self, asks: usize) -> Result<(), NoMemory> {
         match self {

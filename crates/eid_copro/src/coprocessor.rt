@@ -1,7 +1,8 @@
-ghost use Rattle.std.specs.Prelude.{◌≡◌, ℕ, ◌≤◌, List, OnOk};
+ghost use Rattle.std.specs.Prelude.{◌≡◌, ◌≤◌, OnOk};
 ghost use Rattle.std.specs.Option.{option_copied};
 ghost use Rattle.eid_copro.specs.Asked.{Asked, nonce_answer, challenge_answer, pair_answer, map_answer, agree_answer, verify_answer, sign_answer};
-ghost use Rattle.eid_copro.specs.Told.{Told, KeepsTo};
+ghost use Rattle.eid_copro.specs.Seen.{CoproSeen};
+ghost use Rattle.eid_copro.specs.Told.{KeepsTo};
 
 use crate::ask::{Ask, Question};
 use eid_base::{NoMemory, Point, Secret, Signature};
@@ -13,45 +14,34 @@ pub struct CoproFault;
 /// What answers questions and keeps a log of them. A question takes no memory: its place in the log
 /// was made before by `make_room`.
 pub trait Coprocessor {
-    ghost use Rattle.eid_copro.specs.declared.ask.Ask.{Ask};
-
-    // The questions so far with their answers, oldest first.
-    ghost log: { Self → List Ask };
-
-    // For how many more questions there is room.
-    ghost spare: { Self → ℕ };
-
-    // How often it has failed.
-    ghost faults: { Self → ℕ };
-
-    // What it tells of its answers, which never changes.
-    ghost told: { Self → Told };
+    // What it shows to contracts.
+    ghost seen: { Self → CoproSeen };
 
     /// Makes room for that many more questions.
     fn make_room(&mut self, asks: usize) -> Result<(), NoMemory>
-        ensures room { OnOk result (asks ≤ spare self.new) }
-        ensures log { log self.new ≡ log self.old }
-        ensures told { told self.new ≡ told self.old }
-        ensures later { faults self.old ≤ faults self.new };
+        ensures room { OnOk result (asks ≤ (seen self.new).spare) }
+        ensures log { (seen self.new).log ≡ (seen self.old).log }
+        ensures told { (seen self.new).told ≡ (seen self.old).told }
+        ensures later { (seen self.old).faults ≤ (seen self.new).faults };
 
     /// The questions so far with their answers, oldest first.
     fn log(&self) -> &[Ask]
-        ensures { result.now ≡ log self.now };
+        ensures { result.now ≡ (seen self.now).log };
 
     /// Random bytes.
     fn nonce(&mut self) -> Result<[u8; 16], CoproFault>
-        requires { 1 ≤ spare self.old }
-        ensures { Asked log spare faults told self.old self.new Question.Nonce (nonce_answer result) };
+        requires { 1 ≤ (seen self.old).spare }
+        ensures { Asked (seen self.old) (seen self.new) Question.Nonce (nonce_answer result) };
 
     /// Random bytes.
     fn challenge(&mut self) -> Result<[u8; 8], CoproFault>
-        requires { 1 ≤ spare self.old }
-        ensures { Asked log spare faults told self.old self.new Question.Challenge (challenge_answer result) };
+        requires { 1 ≤ (seen self.old).spare }
+        ensures { Asked (seen self.old) (seen self.new) Question.Challenge (challenge_answer result) };
 
     /// A random secret and its public point over that base, or over the generator.
     fn pair(&mut self, base: Option<&Point>) -> Result<(Secret, Point), CoproFault>
-        requires { 1 ≤ spare self.old }
-        ensures { Asked log spare faults told self.old self.new (Question.Pair (option_copied base.entry)) (pair_answer result) };
+        requires { 1 ≤ (seen self.old).spare }
+        ensures { Asked (seen self.old) (seen self.new) (Question.Pair (option_copied base.entry)) (pair_answer result) };
 
     /// The base of PACE's generic mapping; none where that is no point.
     fn map(
@@ -60,14 +50,14 @@ pub trait Coprocessor {
         secret: &Secret,
         peer: &Point,
     ) -> Result<Option<Point>, CoproFault>
-        requires { 1 ≤ spare self.old }
-        ensures { Asked log spare faults told self.old self.new (Question.Map nonce.now secret.now peer.now) (map_answer result) };
+        requires { 1 ≤ (seen self.old).spare }
+        ensures { Asked (seen self.old) (seen self.new) (Question.Map nonce.now secret.now peer.now) (map_answer result) };
 
     /// The X half of the point that the secret and the peer's point agree on; none where that is no
     /// point.
     fn agree(&mut self, secret: &Secret, peer: &Point) -> Result<Option<[u8; 32]>, CoproFault>
-        requires { 1 ≤ spare self.old }
-        ensures { Asked log spare faults told self.old self.new (Question.Agree secret.now peer.now) (agree_answer result) };
+        requires { 1 ≤ (seen self.old).spare }
+        ensures { Asked (seen self.old) (seen self.new) (Question.Agree secret.now peer.now) (agree_answer result) };
 
     /// Whether the signature of the digest is one by that key.
     fn verify(
@@ -76,14 +66,14 @@ pub trait Coprocessor {
         digest: &[u8; 32],
         signature: &Signature,
     ) -> Result<bool, CoproFault>
-        requires { 1 ≤ spare self.old }
-        ensures { Asked log spare faults told self.old self.new (Question.Verify key.now digest.now signature.now) (verify_answer result) };
+        requires { 1 ≤ (seen self.old).spare }
+        ensures { Asked (seen self.old) (seen self.new) (Question.Verify key.now digest.now signature.now) (verify_answer result) };
 
     /// A signature of the digest.
     fn sign(&mut self, secret: &Secret, digest: &[u8; 32]) -> Result<Signature, CoproFault>
-        requires { 1 ≤ spare self.old }
-        ensures { Asked log spare faults told self.old self.new (Question.Sign secret.now digest.now) (sign_answer result) };
+        requires { 1 ≤ (seen self.old).spare }
+        ensures { Asked (seen self.old) (seen self.new) (Question.Sign secret.now digest.now) (sign_answer result) };
 
     // The log is one that what was told makes.
-    ghost keeps_to_told: { (x : Self) → KeepsTo (told x) (log x) };
+    ghost keeps_to_told: { (x : Self) → KeepsTo (seen x).told (seen x).log };
 }

@@ -31,13 +31,13 @@ pub struct ModelCoprocessor {
 }
 
 impl ModelCoprocessor {
-    ghost use Rattle.eid_copro.specs.ModelSeen.{model_log, model_spare, model_faults, model_told};
+    ghost use Rattle.eid_copro.specs.ModelSeen.{model_seen};
 
     /// The model with that start and an empty log.
     pub fn new(alloc: Global, start: u64) -> ModelCoprocessor
-        ensures log { model_log result ≡ [] }
-        ensures told { model_told result ≡ Start start }
-        ensures spare { model_spare result ≡ 0 }
+        ensures log { (model_seen result).log ≡ [] }
+        ensures told { (model_seen result).told ≡ Start start }
+        ensures spare { (model_seen result).spare ≡ 0 }
     {
         ModelCoprocessor {
             start,
@@ -49,8 +49,8 @@ impl ModelCoprocessor {
     // Answers the question and logs it.
     #[tactic(auto, using(crate::proofs::Sources::one_more, crate::proofs::Sources::drawn_more, crate::proofs::Sources::model_fits, crate::proofs::Sources::model_never_faults))]
     fn ask(&mut self, question: Question) -> Answer
-        requires { 1 ≤ model_spare self.old }
-        ensures asked { Asked model_log model_spare model_faults model_told self.old self.new question result }
+        requires { 1 ≤ (model_seen self.old).spare }
+        ensures asked { Asked (model_seen self.old) (model_seen self.new) question result }
         ensures fits { IsTrue (fits question result) }
     {
         let answer = self.answer(question);
@@ -61,7 +61,7 @@ impl ModelCoprocessor {
 
     #[tactic(auto, unfolding(crate::specs::Model::answer_with))]
     fn answer(&self, question: Question) -> Answer
-        ensures { result ≡ model_answer self.now.start (model_log self.now) question }
+        ensures { result ≡ model_answer self.now.start (model_seen self.now).log question }
     {
         match question {
             Question::Nonce => Answer::Nonce(front(&self.block())),
@@ -87,7 +87,7 @@ impl ModelCoprocessor {
 
     // The next random block.
     fn block(&self) -> [u8; 32]
-        ensures { result ≡ random_block self.now.start (blocks_drawn (model_log self.now)) }
+        ensures { result ≡ random_block self.now.start (blocks_drawn (model_seen self.now).log) }
     {
         digest(&self.start.to_be_bytes(), &self.drawn.to_be_bytes())
     }
@@ -173,15 +173,9 @@ fn digest(first: &[u8], second: &[u8]) -> [u8; 32]
 }
 
 impl Coprocessor for ModelCoprocessor {
-    ghost use Rattle.eid_copro.specs.ModelSeen.{model_log, model_spare, model_faults, model_told};
+    ghost use Rattle.eid_copro.specs.ModelSeen.{model_seen};
 
-    ghost log = { model_log };
-
-    ghost spare = { model_spare };
-
-    ghost faults = { model_faults };
-
-    ghost told = { model_told };
+    ghost seen = { model_seen };
 
     fn make_room(&mut self, asks: usize) -> Result<(), NoMemory> {
         self.log.make_room(asks)
@@ -192,24 +186,24 @@ impl Coprocessor for ModelCoprocessor {
     }
 
     fn nonce(&mut self) -> Result<[u8; 16], CoproFault>
-        requires { 1 ≤ model_spare self.old }
-        ensures asked { Asked model_log model_spare model_faults model_told self.old self.new Question.Nonce (nonce_answer result) }
+        requires { 1 ≤ (model_seen self.old).spare }
+        ensures asked { Asked (model_seen self.old) (model_seen self.new) Question.Nonce (nonce_answer result) }
         ensures never { IsOk result }
     {
         nonce_reply(self.ask(Question::Nonce))
     }
 
     fn challenge(&mut self) -> Result<[u8; 8], CoproFault>
-        requires { 1 ≤ model_spare self.old }
-        ensures asked { Asked model_log model_spare model_faults model_told self.old self.new Question.Challenge (challenge_answer result) }
+        requires { 1 ≤ (model_seen self.old).spare }
+        ensures asked { Asked (model_seen self.old) (model_seen self.new) Question.Challenge (challenge_answer result) }
         ensures never { IsOk result }
     {
         challenge_reply(self.ask(Question::Challenge))
     }
 
     fn pair(&mut self, base: Option<&Point>) -> Result<(Secret, Point), CoproFault>
-        requires { 1 ≤ model_spare self.old }
-        ensures asked { Asked model_log model_spare model_faults model_told self.old self.new (Question.Pair (option_copied base.entry)) (pair_answer result) }
+        requires { 1 ≤ (model_seen self.old).spare }
+        ensures asked { Asked (model_seen self.old) (model_seen self.new) (Question.Pair (option_copied base.entry)) (pair_answer result) }
         ensures never { IsOk result }
     {
         pair_reply(self.ask(Question::Pair {
@@ -223,8 +217,8 @@ impl Coprocessor for ModelCoprocessor {
         secret: &Secret,
         peer: &Point,
     ) -> Result<Option<Point>, CoproFault>
-        requires { 1 ≤ model_spare self.old }
-        ensures asked { Asked model_log model_spare model_faults model_told self.old self.new (Question.Map nonce.now secret.now peer.now) (map_answer result) }
+        requires { 1 ≤ (model_seen self.old).spare }
+        ensures asked { Asked (model_seen self.old) (model_seen self.new) (Question.Map nonce.now secret.now peer.now) (map_answer result) }
         ensures never { IsOk result }
     {
         map_reply(self.ask(Question::Map {
@@ -235,8 +229,8 @@ impl Coprocessor for ModelCoprocessor {
     }
 
     fn agree(&mut self, secret: &Secret, peer: &Point) -> Result<Option<[u8; 32]>, CoproFault>
-        requires { 1 ≤ model_spare self.old }
-        ensures asked { Asked model_log model_spare model_faults model_told self.old self.new (Question.Agree secret.now peer.now) (agree_answer result) }
+        requires { 1 ≤ (model_seen self.old).spare }
+        ensures asked { Asked (model_seen self.old) (model_seen self.new) (Question.Agree secret.now peer.now) (agree_answer result) }
         ensures never { IsOk result }
     {
         agree_reply(self.ask(Question::Agree {
@@ -251,8 +245,8 @@ impl Coprocessor for ModelCoprocessor {
         digest: &[u8; 32],
         signature: &Signature,
     ) -> Result<bool, CoproFault>
-        requires { 1 ≤ model_spare self.old }
-        ensures asked { Asked model_log model_spare model_faults model_told self.old self.new (Question.Verify key.now digest.now signature.now) (verify_answer result) }
+        requires { 1 ≤ (model_seen self.old).spare }
+        ensures asked { Asked (model_seen self.old) (model_seen self.new) (Question.Verify key.now digest.now signature.now) (verify_answer result) }
         ensures never { IsOk result }
     {
         verify_reply(self.ask(Question::Verify {
@@ -263,8 +257,8 @@ impl Coprocessor for ModelCoprocessor {
     }
 
     fn sign(&mut self, secret: &Secret, digest: &[u8; 32]) -> Result<Signature, CoproFault>
-        requires { 1 ≤ model_spare self.old }
-        ensures asked { Asked model_log model_spare model_faults model_told self.old self.new (Question.Sign secret.now digest.now) (sign_answer result) }
+        requires { 1 ≤ (model_seen self.old).spare }
+        ensures asked { Asked (model_seen self.old) (model_seen self.new) (Question.Sign secret.now digest.now) (sign_answer result) }
         ensures never { IsOk result }
     {
         sign_reply(self.ask(Question::Sign {

@@ -3,7 +3,6 @@ ghost use Rattle.std.specs.Option.{option_copied};
 ghost use Rattle.eid_base.specs.Faults.{Rose};
 ghost use Rattle.eid_copro.specs.Asked.{Asked, nonce_answer, challenge_answer, pair_answer, map_answer, agree_answer, verify_answer, sign_answer};
 ghost use Rattle.eid_copro.specs.Asks.{fits};
-ghost use Rattle.eid_copro.specs.Script.{script_answer};
 ghost use Rattle.eid_copro.specs.Told.{Listed, ScriptAnswers};
 
 use crate::ask::{Answer, Ask, Question};
@@ -26,14 +25,14 @@ pub struct ScriptCoprocessor {
 }
 
 impl ScriptCoprocessor {
-    ghost use Rattle.eid_copro.specs.ScriptSeen.{script_list, script_log, script_spare, script_faults, script_told};
+    ghost use Rattle.eid_copro.specs.ScriptSeen.{script_next, script_seen};
 
     /// The coprocessor with these answers and an empty log.
     pub fn new(alloc: Global, answers: Vec<Answer>) -> ScriptCoprocessor
-        ensures log { script_log result ≡ [] }
-        ensures told { script_told result ≡ Listed answers.items }
-        ensures spare { script_spare result ≡ 0 }
-        ensures faults { script_faults result ≡ 0 }
+        ensures log { (script_seen result).log ≡ [] }
+        ensures told { (script_seen result).told ≡ Listed answers.items }
+        ensures spare { (script_seen result).spare ≡ 0 }
+        ensures faults { (script_seen result).faults ≡ 0 }
     {
         ScriptCoprocessor {
             answers,
@@ -45,8 +44,8 @@ impl ScriptCoprocessor {
     // Answers the question and logs it.
     #[tactic(auto, using(crate::proofs::Sources::one_more, crate::proofs::Sources::script_fits))]
     fn ask(&mut self, question: Question) -> Answer
-        requires { 1 ≤ script_spare self.old }
-        ensures asked { Asked script_log script_spare script_faults script_told self.old self.new question result }
+        requires { 1 ≤ (script_seen self.old).spare }
+        ensures asked { Asked (script_seen self.old) (script_seen self.new) question result }
         ensures fits { IsTrue (fits question result) }
     {
         let answer = self.answer(&question);
@@ -57,7 +56,7 @@ impl ScriptCoprocessor {
 
     // The answer at the place of the question.
     fn answer(&self, question: &Question) -> Answer
-        ensures { result ≡ script_answer (script_list self.now) (script_log self.now) question.now }
+        ensures { result ≡ script_next self.now question.now }
     {
         match self.answers.get(self.log.asks().len()) {
             Some(answer) if suits(question, answer) => *answer,
@@ -97,15 +96,9 @@ fn suits(question: &Question, answer: &Answer) -> bool
 }
 
 impl Coprocessor for ScriptCoprocessor {
-    ghost use Rattle.eid_copro.specs.ScriptSeen.{script_list, script_log, script_spare, script_faults, script_told};
+    ghost use Rattle.eid_copro.specs.ScriptSeen.{script_next, script_seen};
 
-    ghost log = { script_log };
-
-    ghost spare = { script_spare };
-
-    ghost faults = { script_faults };
-
-    ghost told = { script_told };
+    ghost seen = { script_seen };
 
     fn make_room(&mut self, asks: usize) -> Result<(), NoMemory> {
         self.log.make_room(asks)
@@ -116,25 +109,25 @@ impl Coprocessor for ScriptCoprocessor {
     }
 
     fn nonce(&mut self) -> Result<[u8; 16], CoproFault>
-        requires { 1 ≤ script_spare self.old }
-        ensures asked { Asked script_log script_spare script_faults script_told self.old self.new Question.Nonce (nonce_answer result) }
-        ensures fault { IsErr result ↔ (script_answer (script_list self.old) (script_log self.old) Question.Nonce ≡ Answer.Fault) }
+        requires { 1 ≤ (script_seen self.old).spare }
+        ensures asked { Asked (script_seen self.old) (script_seen self.new) Question.Nonce (nonce_answer result) }
+        ensures fault { IsErr result ↔ (script_next self.old Question.Nonce ≡ Answer.Fault) }
     {
         nonce_reply(self.ask(Question::Nonce))
     }
 
     fn challenge(&mut self) -> Result<[u8; 8], CoproFault>
-        requires { 1 ≤ script_spare self.old }
-        ensures asked { Asked script_log script_spare script_faults script_told self.old self.new Question.Challenge (challenge_answer result) }
-        ensures fault { IsErr result ↔ (script_answer (script_list self.old) (script_log self.old) Question.Challenge ≡ Answer.Fault) }
+        requires { 1 ≤ (script_seen self.old).spare }
+        ensures asked { Asked (script_seen self.old) (script_seen self.new) Question.Challenge (challenge_answer result) }
+        ensures fault { IsErr result ↔ (script_next self.old Question.Challenge ≡ Answer.Fault) }
     {
         challenge_reply(self.ask(Question::Challenge))
     }
 
     fn pair(&mut self, base: Option<&Point>) -> Result<(Secret, Point), CoproFault>
-        requires { 1 ≤ script_spare self.old }
-        ensures asked { Asked script_log script_spare script_faults script_told self.old self.new (Question.Pair (option_copied base.entry)) (pair_answer result) }
-        ensures fault { IsErr result ↔ (script_answer (script_list self.old) (script_log self.old) (Question.Pair (option_copied base.entry)) ≡ Answer.Fault) }
+        requires { 1 ≤ (script_seen self.old).spare }
+        ensures asked { Asked (script_seen self.old) (script_seen self.new) (Question.Pair (option_copied base.entry)) (pair_answer result) }
+        ensures fault { IsErr result ↔ (script_next self.old (Question.Pair (option_copied base.entry)) ≡ Answer.Fault) }
     {
         pair_reply(self.ask(Question::Pair {
             base: base.copied(),
@@ -147,9 +140,9 @@ impl Coprocessor for ScriptCoprocessor {
         secret: &Secret,
         peer: &Point,
     ) -> Result<Option<Point>, CoproFault>
-        requires { 1 ≤ script_spare self.old }
-        ensures asked { Asked script_log script_spare script_faults script_told self.old self.new (Question.Map nonce.now secret.now peer.now) (map_answer result) }
-        ensures fault { IsErr result ↔ (script_answer (script_list self.old) (script_log self.old) (Question.Map nonce.now secret.now peer.now) ≡ Answer.Fault) }
+        requires { 1 ≤ (script_seen self.old).spare }
+        ensures asked { Asked (script_seen self.old) (script_seen self.new) (Question.Map nonce.now secret.now peer.now) (map_answer result) }
+        ensures fault { IsErr result ↔ (script_next self.old (Question.Map nonce.now secret.now peer.now) ≡ Answer.Fault) }
     {
         map_reply(self.ask(Question::Map {
             nonce: *nonce,
@@ -159,9 +152,9 @@ impl Coprocessor for ScriptCoprocessor {
     }
 
     fn agree(&mut self, secret: &Secret, peer: &Point) -> Result<Option<[u8; 32]>, CoproFault>
-        requires { 1 ≤ script_spare self.old }
-        ensures asked { Asked script_log script_spare script_faults script_told self.old self.new (Question.Agree secret.now peer.now) (agree_answer result) }
-        ensures fault { IsErr result ↔ (script_answer (script_list self.old) (script_log self.old) (Question.Agree secret.now peer.now) ≡ Answer.Fault) }
+        requires { 1 ≤ (script_seen self.old).spare }
+        ensures asked { Asked (script_seen self.old) (script_seen self.new) (Question.Agree secret.now peer.now) (agree_answer result) }
+        ensures fault { IsErr result ↔ (script_next self.old (Question.Agree secret.now peer.now) ≡ Answer.Fault) }
     {
         agree_reply(self.ask(Question::Agree {
             secret: *secret,
@@ -175,9 +168,9 @@ impl Coprocessor for ScriptCoprocessor {
         digest: &[u8; 32],
         signature: &Signature,
     ) -> Result<bool, CoproFault>
-        requires { 1 ≤ script_spare self.old }
-        ensures asked { Asked script_log script_spare script_faults script_told self.old self.new (Question.Verify key.now digest.now signature.now) (verify_answer result) }
-        ensures fault { IsErr result ↔ (script_answer (script_list self.old) (script_log self.old) (Question.Verify key.now digest.now signature.now) ≡ Answer.Fault) }
+        requires { 1 ≤ (script_seen self.old).spare }
+        ensures asked { Asked (script_seen self.old) (script_seen self.new) (Question.Verify key.now digest.now signature.now) (verify_answer result) }
+        ensures fault { IsErr result ↔ (script_next self.old (Question.Verify key.now digest.now signature.now) ≡ Answer.Fault) }
     {
         verify_reply(self.ask(Question::Verify {
             key: *key,
@@ -187,9 +180,9 @@ impl Coprocessor for ScriptCoprocessor {
     }
 
     fn sign(&mut self, secret: &Secret, digest: &[u8; 32]) -> Result<Signature, CoproFault>
-        requires { 1 ≤ script_spare self.old }
-        ensures asked { Asked script_log script_spare script_faults script_told self.old self.new (Question.Sign secret.now digest.now) (sign_answer result) }
-        ensures fault { IsErr result ↔ (script_answer (script_list self.old) (script_log self.old) (Question.Sign secret.now digest.now) ≡ Answer.Fault) }
+        requires { 1 ≤ (script_seen self.old).spare }
+        ensures asked { Asked (script_seen self.old) (script_seen self.new) (Question.Sign secret.now digest.now) (sign_answer result) }
+        ensures fault { IsErr result ↔ (script_next self.old (Question.Sign secret.now digest.now) ≡ Answer.Fault) }
     {
         sign_reply(self.ask(Question::Sign {
             secret: *secret,

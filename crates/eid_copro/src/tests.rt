@@ -1,5 +1,5 @@
 ghost use Rattle.std.specs.Prelude.{◌≤◌, IfOk};
-ghost use Rattle.eid_copro.specs.AnySeen.{any_spare};
+ghost use Rattle.eid_copro.specs.AnySeen.{any_seen};
 
 use crate::any::AnyCopro;
 use crate::ask::{Answer, Ask, Question};
@@ -14,7 +14,7 @@ use std::test::Fail;
 
 // A model with room for eight questions.
 fn model(alloc: Global, start: u64) -> Result<AnyCopro, NoMemory>
-    ensures { IfOk result (λ copro. 8 ≤ any_spare copro) }
+    ensures { IfOk result (λ copro. 8 ≤ (any_seen copro).spare) }
 {
     let mut copro = AnyCopro::Model(ModelCoprocessor::new(alloc, start));
     copro.make_room(8)?;
@@ -23,7 +23,7 @@ fn model(alloc: Global, start: u64) -> Result<AnyCopro, NoMemory>
 
 // A script with room for eight questions.
 fn script(alloc: Global, answers: Vec<Answer>) -> Result<AnyCopro, NoMemory>
-    ensures { IfOk result (λ copro. 8 ≤ any_spare copro) }
+    ensures { IfOk result (λ copro. 8 ≤ (any_seen copro).spare) }
 {
     let mut copro = AnyCopro::Script(ScriptCoprocessor::new(alloc, answers));
     copro.make_room(8)?;

@@ -1,8 +1,10 @@
 -- What came determines the journal.
 use Rattle.std.proofs.Common.{◌≡◌, ℕ, Bool, true, false, List, [], ◌∷◌, ◌++◌, length, Option, Some, None, refl, sym, ap, ◌∙◌, subst, arith, length-append, append_assoc}
 use Rattle.eid_apdu.proofs.OneCommand.{spells_one}
-use Rattle.eid_record.specs.Plain.{FullRecord}
+use Rattle.eid_record.specs.Plain.{FullRecord, PlainEffect}
 use Rattle.eid_apdu.specs.Command.{PlainCommand}
+use Rattle.eid_apdu.specs.Answer.{PlainReply}
+use Rattle.std.specs.Prelude.{is_none, ◌&&◌}
 use Rattle.eid_copro.specs.Told.{Source, AnswersFrom}
 use Rattle.eid_copro.specs.declared.ask.Ask.{Ask}
 use Rattle.eid_copro.specs.declared.ask.Question.{Question}
@@ -12,12 +14,13 @@ use Rattle.eid_sm.specs.Parts.{AreBytes}
 use Rattle.eid_sm.specs.Commands.{IsProtected, LacksObjects, sent_command}
 use Rattle.eid_sm.proofs.ProtectedFacts.{not_lacking, protected_has_objects}
 use Rattle.eid_sm.proofs.OneProtected.{one_protected}
-use Rattle.eid_model.specs.Moments.{Event, PoweredOn, PoweredOff, Received, PlainMoment, PlainLine, line_of, on, live, AreSteady, is_steady, script, asked}
+use Rattle.eid_model.specs.Moments.{Event, PoweredOn, PoweredOff, Received, PlainMoment, PlainLine, line_of, on, live, AreSteady, is_lost, lost, script, asked}
 use Rattle.eid_model.specs.Runs.{answers_of}
 use Rattle.eid_model.specs.Sessions.{channel}
 use Rattle.eid_model.specs.Rules.{Heard, NoCommand, MissingObjects, WrongObjects, Command}
-use Rattle.eid_model.specs.Answers.{outcome, question}
-use Rattle.eid_model.specs.Legal.{IsHeardPlain, IsHeardProtected, IsHeard, AreAsked, IsAnswered, IsHandled, IsLegalFor, IsLegalMoment, AreLegal, answered, silent, situation_after}
+use Rattle.eid_model.specs.Answers.{Outcome, outcome, question, due}
+use Rattle.eid_model.specs.Legal.{IsHeardPlain, IsHeardProtected, IsHeard, AreAsked, IsMoment, IsPowered, IsHandled, IsLegalFor, IsLegalMoment, AreLegal, answered, silent, situation_after, IsOnlyJournal}
+use Rattle.eid_model.specs.Ledger.{books, books_more, pending, kept}
 use Rattle.eid_model.proofs.KeyBytes.{channel_bytes}
 
 -- lists that are equal with one more item are equal without it
@@ -96,37 +99,67 @@ same_asks source next log given (x ∷ a) (y ∷ b) p q s t =
     let later : a ≡ b = same_asks source next (log ++ x ∷ []) (given ++ x.answer ∷ []) a b p.2 asked_b later_a later_b in
     ap (λ (f : Ask). f ∷ a) first ∙ ap (λ (l : List Ask). y ∷ l) later
 
-same_answered : (source : Source) (opening : FullRecord) (before : List PlainMoment) (bytes : List ℕ) (m n : PlainMoment) → AnswersFrom source (asked (m ∷ before)) → AnswersFrom source (asked (n ∷ before)) → IsAnswered opening before bytes m → IsAnswered opening before bytes n → m ≡ n
-same_answered source opening before bytes m n s t p q =
+-- what was heard and what was asked
+same_powered : (source : Source) (opening : FullRecord) (before : List PlainMoment) (bytes : List ℕ) (m n : PlainMoment) (reply other : PlainReply) → AnswersFrom source (asked (m ∷ before)) → AnswersFrom source (asked (n ∷ before))
+    → m.answer ≡ Some reply → n.answer ≡ Some other → IsPowered opening before bytes m → IsPowered opening before bytes n → m ≡ n
+same_powered source opening before bytes m n reply other s t m_answered n_answered p q =
     let ch = channel (live before) in
     let heard : p.heard ≡ q.heard = same_heard (live before) ch bytes p.heard q.heard refl p.hears q.hears in
     let next : Heard → List Answer → Option Question = λ (h : Heard) (given : List Answer). question (situation_after opening before h given) in
     let q_asked : AreAsked (next p.heard) [] n.asks = subst (λ (h : Heard). AreAsked (next h) [] n.asks) (sym heard) q.asked in
     let asks : m.asks ≡ n.asks = same_asks source (next p.heard) (asked before) [] m.asks n.asks p.asked q_asked s t in
-    let made : Heard → List Ask → PlainMoment = λ (h : Heard) (a : List Ask). answered ch bytes h a (outcome (situation_after opening before h (answers_of a))) in
-    p.moment ∙ ap (λ (h : Heard). made h m.asks) heard ∙ ap (λ (a : List Ask). made q.heard a) asks ∙ sym q.moment
+    let made : Heard → List Ask → PlainMoment = λ (h : Heard) (a : List Ask). answered ch bytes h a (length (due (situation_after opening before h (answers_of a)))) (outcome (situation_after opening before h (answers_of a))) in
+    let due_for : Heard → List Ask → List PlainEffect = λ (h : Heard) (a : List Ask). due (situation_after opening before h (answers_of a)) in
+    let ends : Heard → List Ask → Outcome = λ (h : Heard) (a : List Ask). outcome (situation_after opening before h (answers_of a)) in
+    let m_is : m ≡ made p.heard m.asks = subst (λ (o : Option PlainReply). IsMoment o ch bytes p.heard (due_for p.heard m.asks) (ends p.heard m.asks) m) m_answered p.moment in
+    let n_is : n ≡ made q.heard n.asks = subst (λ (o : Option PlainReply). IsMoment o ch bytes q.heard (due_for q.heard n.asks) (ends q.heard n.asks) n) n_answered q.moment in
+    m_is ∙ ap (λ (h : Heard). made h m.asks) heard ∙ ap (λ (a : List Ask). made q.heard a) asks ∙ sym n_is
 
-same_handled : (source : Source) (power : Bool) (opening : FullRecord) (before : List PlainMoment) (bytes : List ℕ) (m n : PlainMoment) → AnswersFrom source (asked (m ∷ before)) → AnswersFrom source (asked (n ∷ before)) → on before ≡ power → IsHandled opening before bytes m → IsHandled opening before bytes n → m ≡ n
-same_handled source true opening before bytes m n s t power p q = same_answered source opening before bytes m n s t (p.powered power) (q.powered power)
-same_handled source false opening before bytes m n s t power p q = p.unpowered power ∙ sym (q.unpowered power)
+same_handled : (source : Source) (power : Bool) (opening : FullRecord) (before : List PlainMoment) (bytes : List ℕ) (m n : PlainMoment) → AnswersFrom source (asked (m ∷ before)) → AnswersFrom source (asked (n ∷ before)) → on before ≡ power
+    → (is_none m.answer && on before) ≡ false → (is_none n.answer && on before) ≡ false → IsHandled opening before bytes m → IsHandled opening before bytes n → m ≡ n
+same_handled source true opening before bytes m n s t power m_kept n_kept p q = by m.answer n.answer refl refl where
+  by : (a b : Option PlainReply) → m.answer ≡ a → n.answer ≡ b → m ≡ n
+  by None b a_is b_is = absurd (let none : (is_none m.answer && on before) ≡ true = rw (a_is, power) refl in cc)
+  by (Some reply) None a_is b_is = absurd (let none : (is_none n.answer && on before) ≡ true = rw (b_is, power) refl in cc)
+  by (Some reply) (Some other) a_is b_is = same_powered source opening before bytes m n reply other s t a_is b_is (p.powered power) (q.powered power)
+same_handled source false opening before bytes m n s t power m_kept n_kept p q = p.unpowered power ∙ sym (q.unpowered power)
+
+-- without a cut nothing is pending
+pub nothing_pending : (opening : FullRecord) (moments : List PlainMoment) → AreSteady moments → pending opening moments ≡ None
+unfolding books
+nothing_pending opening [] steady = refl
+nothing_pending opening (m ∷ before) steady = by m.input refl (nothing_pending opening before steady.0) steady.1 where
+  handled : (power : Bool) (o : Option PlainReply) → on before ≡ power → m.answer ≡ o → pending opening before ≡ None → (is_none m.answer && on before) ≡ false → (books_more opening before m (Received []) (books opening before)).pending ≡ None
+  handled false o power answer earlier kept = rw power earlier
+  handled true None power answer earlier kept = absurd (let none : (is_none m.answer && on before) ≡ true = rw (answer, power) refl in cc)
+  handled true (Some reply) power answer earlier kept = rw (power, answer) refl
+
+  by : (e : Event) → m.input ≡ e → pending opening before ≡ None → lost m before ≡ false → (books_more opening before m e (books opening before)).pending ≡ None
+  by (PoweredOn None) is earlier kept = earlier
+  by (PoweredOn (Some found)) is earlier kept = refl
+  by PoweredOff is earlier kept = earlier
+  by (Received bytes) is earlier kept = handled (on before) m.answer refl refl earlier (rw is at kept)
 
 -- what came, and the moments before, determine the moment
-same_for : (source : Source) (e f : Event) (opening : FullRecord) (before : List PlainMoment) (m n : PlainMoment) → AnswersFrom source (asked (m ∷ before)) → AnswersFrom source (asked (n ∷ before)) → IsLegalFor e opening before m → IsLegalFor f opening before n → is_steady e ≡ true → is_steady f ≡ true → line_of e ≡ line_of f → m ≡ n
-same_for source (PoweredOn None) f opening before m n from_m from_n p q e_steady f_steady lines = absurd (cc)
-same_for source (PoweredOn (Some x)) (PoweredOn None) opening before m n from_m from_n p q e_steady f_steady lines = absurd (cc)
-same_for source (PoweredOn (Some x)) (PoweredOn (Some y)) opening before m n from_m from_n p q e_steady f_steady lines =
-    let number : x ≡ y = p.0 ∙ sym q.0 in
+same_for : (source : Source) (e f : Event) (opening : FullRecord) (before : List PlainMoment) (m n : PlainMoment) → AnswersFrom source (asked (m ∷ before)) → AnswersFrom source (asked (n ∷ before)) → IsLegalFor e opening before m → IsLegalFor f opening before n
+    → pending opening before ≡ None → is_lost e (is_none m.answer && on before) ≡ false → is_lost f (is_none n.answer && on before) ≡ false → line_of e ≡ line_of f → m ≡ n
+same_for source (PoweredOn None) f opening before m n from_m from_n p q none e_steady f_steady lines = absurd (cc)
+same_for source (PoweredOn (Some x)) (PoweredOn None) opening before m n from_m from_n p q none e_steady f_steady lines = absurd (cc)
+same_for source (PoweredOn (Some x)) (PoweredOn (Some y)) opening before m n from_m from_n p q none e_steady f_steady lines =
+    let first : x ≡ (kept opening before).fields.number = rw none at p.0 in
+    let second : y ≡ (kept opening before).fields.number = rw none at q.0 in
+    let number : x ≡ y = first ∙ sym second in
     p.1 ∙ ap (λ (k : ℕ). silent (PoweredOn (Some k))) number ∙ sym q.1
-same_for source (PoweredOn (Some x)) PoweredOff opening before m n from_m from_n p q e_steady f_steady lines = absurd (cc)
-same_for source (PoweredOn (Some x)) (Received bytes) opening before m n from_m from_n p q e_steady f_steady lines = absurd (cc)
-same_for source PoweredOff (PoweredOn found) opening before m n from_m from_n p q e_steady f_steady lines = absurd (cc)
-same_for source PoweredOff PoweredOff opening before m n from_m from_n p q e_steady f_steady lines = p ∙ sym q
-same_for source PoweredOff (Received bytes) opening before m n from_m from_n p q e_steady f_steady lines = absurd (cc)
-same_for source (Received bytes) (PoweredOn found) opening before m n from_m from_n p q e_steady f_steady lines = absurd (cc)
-same_for source (Received bytes) PoweredOff opening before m n from_m from_n p q e_steady f_steady lines = absurd (cc)
-same_for source (Received bytes) (Received others) opening before m n from_m from_n p q e_steady f_steady lines =
+same_for source (PoweredOn (Some x)) PoweredOff opening before m n from_m from_n p q none e_steady f_steady lines = absurd (cc)
+same_for source (PoweredOn (Some x)) (Received bytes) opening before m n from_m from_n p q none e_steady f_steady lines = absurd (cc)
+same_for source PoweredOff (PoweredOn found) opening before m n from_m from_n p q none e_steady f_steady lines = absurd (cc)
+same_for source PoweredOff PoweredOff opening before m n from_m from_n p q none e_steady f_steady lines = p ∙ sym q
+same_for source PoweredOff (Received bytes) opening before m n from_m from_n p q none e_steady f_steady lines = absurd (cc)
+same_for source (Received bytes) (PoweredOn found) opening before m n from_m from_n p q none e_steady f_steady lines = absurd (cc)
+same_for source (Received bytes) PoweredOff opening before m n from_m from_n p q none e_steady f_steady lines = absurd (cc)
+same_for source (Received bytes) (Received others) opening before m n from_m from_n p q none e_steady f_steady lines =
     let same : others ≡ bytes = cc in
-    same_handled source (on before) opening before bytes m n from_m from_n refl p (rw same at q)
+    same_handled source (on before) opening before bytes m n from_m from_n refl e_steady f_steady p (rw same at q)
 
 -- a front of what a source answered
 answers_front : (source : Source) (a b : List Ask) → AnswersFrom source (a ++ b) → AnswersFrom source a
@@ -148,5 +181,9 @@ one_journal source opening (m ∷ a) (n ∷ b) p q s t lines f g =
     let before : b ≡ a = sym (one_journal source opening a b p.1 q.1 s.0 t.0 parts.0 (answers_front source (asked a) m.asks f) (answers_front source (asked b) n.asks g)) in
     let legal : IsLegalMoment opening a n = subst (λ (moments : List PlainMoment). IsLegalMoment opening moments n) before q.0 in
     let from_n : AnswersFrom source (asked (n ∷ a)) = subst (λ (moments : List PlainMoment). AnswersFrom source (asked (n ∷ moments))) before g in
-    let same : m ≡ n = same_for source m.input n.input opening a m n f from_n p.0 legal s.1 t.1 parts.1 in
+    let same : m ≡ n = same_for source m.input n.input opening a m n f from_n p.0 legal (nothing_pending opening a s.0) s.1 (rw before at t.1) parts.1 in
     ap (λ (x : PlainMoment). x ∷ a) same ∙ ap (λ (l : List PlainMoment). n ∷ l) (sym before)
+
+-- a journal without a cut is the only one
+pub only_journal : (source : Source) (opening : FullRecord) (moments : List PlainMoment) → AreLegal opening moments → AreSteady moments → AnswersFrom source (asked moments) → IsOnlyJournal source opening moments
+only_journal source opening moments legal steady told other of_other its_steady same answered = one_journal source opening other moments of_other legal its_steady steady same answered told

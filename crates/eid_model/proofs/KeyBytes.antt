@@ -7,13 +7,13 @@ use Rattle.sha1.specs.Sha1.{sha1, digest_bytes}
 use Rattle.eid_cmac.specs.Derivation.{derived}
 use Rattle.eid_pace.specs.States.{PlainDone}
 use Rattle.eid_pace.specs.Check.{done_by}
-use Rattle.eid_sm.specs.Keys.{ChannelState}
+use Rattle.eid_sm.specs.Keys.{Keys, ChannelState}
 use Rattle.eid_sm.specs.Parts.{AreBytes}
 use Rattle.eid_model.specs.declared.kind.Kind.{Kind}
 use Rattle.eid_model.specs.declared.kind.Kind.TheVariants.{SelectApplication, SelectMasterFile, SelectFile, ReadBinary, SelectPace, EncryptedNonce, MapNonce, PerformKeyAgreement, MutualAuthentication, NoStep}
 use Rattle.eid_model.specs.Moments.{PlainMoment}
 use Rattle.eid_model.specs.Runs.{Phase, Idle, Chose, SentNonce, HasBase, HasSecret, run, phase}
-use Rattle.eid_model.specs.Sessions.{pace_done, pace_by, carried_out, completed, pace, channel, channel_after, moments_since_pace}
+use Rattle.eid_model.specs.Sessions.{pace_done, pace_by, carried_out, completed, keys_of, channel_keys, channel, channel_after, commands_since_opening}
 
 -- each of them is a byte
 All : List ℕ → Type 0
@@ -69,23 +69,24 @@ done_bytes MapNonce p done is = absurd (cc)
 done_bytes PerformKeyAgreement p done is = absurd (cc)
 done_bytes NoStep p done is = absurd (cc)
 
-pace_bytes : (session : List PlainMoment) (done : PlainDone) → pace session ≡ Some done → AreBytes done.enc
-pace_bytes [] done is = absurd (cc)
-pace_bytes (m ∷ before) done is = by (completed m before) refl (pace_bytes before done) is where
-  by : (o : Option PlainDone) → completed m before ≡ o → (pace before ≡ Some done → AreBytes done.enc) → option_or o (pace before) ≡ Some done → AreBytes done.enc
+-- and the keys of the channel that was opened last
+keys_bytes : (session : List PlainMoment) (keys : Keys) → channel_keys session ≡ Some keys → AreBytes keys.enc
+keys_bytes [] keys is = absurd (cc)
+keys_bytes (m ∷ before) keys is = by (completed m before) refl (keys_bytes before keys) is where
+  by : (o : Option PlainDone) → completed m before ≡ o → (channel_keys before ≡ Some keys → AreBytes keys.enc) → option_or (option_map keys_of o) (channel_keys before) ≡ Some keys → AreBytes keys.enc
   by None none earlier is = earlier is
   by (Some found) there earlier is =
-      let same : found ≡ done = cc in
-      subst (λ (d : PlainDone). AreBytes d.enc) same (by_kind (carried_out m before) there)
+      let same : keys_of found ≡ keys = cc in
+      subst (λ (k : Keys). AreBytes k.enc) same (by_kind (carried_out m before) there)
     where
       by_kind : (kind : Option Kind) → pace_by kind (phase (run before)) ≡ Some found → AreBytes found.enc
       by_kind None none = absurd (cc)
       by_kind (Some kind) there = done_bytes kind (phase (run before)) found there
 
 pub channel_bytes : (session : List PlainMoment) (ch : ChannelState) → channel session ≡ Some ch → AreBytes ch.keys.enc
-channel_bytes session ch is = by (pace session) refl is where
-  by : (o : Option PlainDone) → pace session ≡ o → option_map (channel_after (moments_since_pace session)) o ≡ Some ch → AreBytes ch.keys.enc
+channel_bytes session ch is = by (channel_keys session) refl is where
+  by : (o : Option Keys) → channel_keys session ≡ o → option_map (channel_after (commands_since_opening session)) o ≡ Some ch → AreBytes ch.keys.enc
   by None none is = absurd (cc)
-  by (Some done) there is =
-      let same : channel_after (moments_since_pace session) done ≡ ch = cc in
-      subst (λ (c : ChannelState). AreBytes c.keys.enc) same (pace_bytes session done there)
+  by (Some keys) there is =
+      let same : channel_after (commands_since_opening session) keys ≡ ch = cc in
+      subst (λ (c : ChannelState). AreBytes c.keys.enc) same (keys_bytes session keys there)

@@ -1,3 +1,5 @@
 pub mod Hexadecimal
 pub mod KeyBytes
 pub mod Journals
+pub mod Ledgers
+pub mod Books

@@ -7,15 +7,16 @@ use Rattle.eid_copro.specs.declared.ask.Question.{Question}
 use Rattle.eid_copro.specs.declared.ask.Question.TheVariants as questions
 use Rattle.eid_copro.specs.declared.ask.Answer.{Answer}
 use Rattle.eid_copro.specs.declared.ask.Answer.TheVariants as answers
-use Rattle.eid_record.specs.Plain.{FullRecord, PlainRecord, PlainTrustPoint}
+use Rattle.eid_record.specs.Plain.{FullRecord, PlainRecord, PlainTrustPoint, PlainEffect}
 use Rattle.eid_password.specs.Passwords.{digits_of}
-use Rattle.eid_pace.specs.Keys.{encrypted_nonce, token}
+use Rattle.eid_pace.specs.Check.{chip_token}
+use Rattle.eid_pace.specs.Keys.{encrypted_nonce}
 use Rattle.eid_model.specs.declared.kind.Kind.{Kind}
-use Rattle.eid_model.specs.declared.kind.Kind.TheVariants.{ReadBinary, EncryptedNonce, MapNonce, PerformKeyAgreement, MutualAuthentication}
+use Rattle.eid_model.specs.declared.kind.Kind.TheVariants.{SelectApplication, SelectMasterFile, SelectFile, ReadBinary, SelectPace, EncryptedNonce, MapNonce, PerformKeyAgreement, MutualAuthentication, NoStep}
 use Rattle.eid_model.specs.Bodies.{data_in, authentication_data}
 use Rattle.eid_model.specs.Kinds.{kind_named}
 use Rattle.eid_model.specs.Runs.{Phase, Chose, SentNonce, HasBase, HasSecret}
-use Rattle.eid_model.specs.Sessions.{State, advanced, ended_run}
+use Rattle.eid_model.specs.Sessions.{State}
 use Rattle.eid_model.specs.Rules.{Heard, Command, Situation, RuleRow, hearing_rules, naming_rules, request_rules, kind_rules, answer_rules, proof_rules, first_failed, file_of, file_meant, offset_meant}
 
 abbrev pub status_alone : ℕ → PlainReply
@@ -51,18 +52,22 @@ previous_name (Some point) = object 0x88 point.name
 -- the chip's token in 86, and in 87 and 88 the names of the trust points
 abbrev pub token_reply : PlainRecord → Phase → PlainReply
 token_reply kept (HasSecret agreed) =
-    data_alone (object 0x7C (object 0x86 (token agreed.shared agreed.terminal_point) ++ object 0x87 kept.current.name ++ previous_name kept.previous))
+    data_alone (object 0x7C (object 0x86 (chip_token agreed) ++ object 0x87 kept.current.name ++ previous_name kept.previous))
 token_reply kept phase = status_alone 0x9000
 
 -- the answer to a command that is carried out
 abbrev pub success_of : Kind → Situation → PlainReply
+success_of SelectApplication s = status_alone 0x9000
+success_of SelectMasterFile s = status_alone 0x9000
+success_of SelectFile s = status_alone 0x9000
 success_of ReadBinary s =
     read_reply (drop (offset_meant s.command) (unwrap_or (file_of s.kept (file_meant s)) [])) s.command.ne
+success_of SelectPace s = status_alone 0x9000
 success_of EncryptedNonce s = nonce_reply s.kept.fields s.state.phase s.answers
 success_of MapNonce s = point_reply 0x82 s.answers
 success_of PerformKeyAgreement s = point_reply 0x84 s.answers
 success_of MutualAuthentication s = token_reply s.kept.fields s.state.phase
-success_of kind s = status_alone 0x9000
+success_of NoStep s = status_alone 0x9000
 
 abbrev pub success : Option Kind → Situation → PlainReply
 success None s = status_alone 0x9000
@@ -111,10 +116,17 @@ agree_question peer phase answers = None
 
 -- the question of a kind that follows these answers
 abbrev pub question_of : Option Kind → Situation → Option Question
+question_of None s = None
+question_of (Some SelectApplication) s = None
+question_of (Some SelectMasterFile) s = None
+question_of (Some SelectFile) s = None
+question_of (Some ReadBinary) s = None
+question_of (Some SelectPace) s = None
 question_of (Some EncryptedNonce) s = nonce_question s.state.phase s.answers
 question_of (Some MapNonce) s = map_question (data_in s.command.body) s.state.phase s.answers
 question_of (Some PerformKeyAgreement) s = agree_question (data_in s.command.body) s.state.phase s.answers
-question_of kind s = None
+question_of (Some MutualAuthentication) s = None
+question_of (Some NoStep) s = None
 
 -- the rules before the answers
 abbrev pub rules_before : List RuleRow
@@ -134,7 +146,26 @@ outcome_of before s = outcome_by (first_failed (before ++ answer_rules ++ proof_
 unfoldable pub outcome : Situation → Outcome
 outcome s = outcome_of rules_before s
 
--- the state after a command that was answered by this rule, with these answers of the coprocessor
-abbrev pub state_answered : ℕ → Option Kind → PlainCommand → List Answer → State → State
-state_answered rule None c answers old = ended_run old
-state_answered rule (Some kind) c answers old = if rule == 0 then advanced kind c answers old else ended_run old
+-- ---- commits
+
+-- the effects that a command of this kind commits where it is carried out, or where nothing but its proof is wrong, in
+-- their order. No kind of this stage commits any.
+abbrev pub due_of : Option Kind → Situation → List PlainEffect
+due_of None s = []
+due_of (Some SelectApplication) s = []
+due_of (Some SelectMasterFile) s = []
+due_of (Some SelectFile) s = []
+due_of (Some ReadBinary) s = []
+due_of (Some SelectPace) s = []
+due_of (Some EncryptedNonce) s = []
+due_of (Some MapNonce) s = []
+due_of (Some PerformKeyAgreement) s = []
+due_of (Some MutualAuthentication) s = []
+due_of (Some NoStep) s = []
+
+-- the effects due, by these rules and those over the answers: none where one of them fails
+abbrev pub due_by : List RuleRow → Situation → List PlainEffect
+due_by before s = if is_none (first_failed (before ++ answer_rules) s) then due_of s.kind s else []
+
+unfoldable pub due : Situation → List PlainEffect
+due s = due_by rules_before s

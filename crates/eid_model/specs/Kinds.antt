@@ -75,23 +75,41 @@ kind_named next c = option_map (λ row. row.kind) (find (λ row. has_parameters 
 
 -- the step that comes behind a command of this kind, in its run
 abbrev pub step_after : Kind → Option Kind
+step_after SelectApplication = None
+step_after SelectMasterFile = None
+step_after SelectFile = None
+step_after ReadBinary = None
 step_after SelectPace = Some EncryptedNonce
 step_after EncryptedNonce = Some MapNonce
 step_after MapNonce = Some PerformKeyAgreement
 step_after PerformKeyAgreement = Some MutualAuthentication
-step_after kind = None
+step_after MutualAuthentication = None
+step_after NoStep = None
 
 -- a command of this kind begins a run, or goes on in it
 abbrev pub begins_run : Kind → Bool
+begins_run SelectApplication = false
+begins_run SelectMasterFile = false
+begins_run SelectFile = false
+begins_run ReadBinary = false
 begins_run SelectPace = true
-begins_run kind = false
+begins_run EncryptedNonce = false
+begins_run MapNonce = false
+begins_run PerformKeyAgreement = false
+begins_run MutualAuthentication = false
+begins_run NoStep = false
 
 abbrev pub goes_on_in_run : Kind → Bool
+goes_on_in_run SelectApplication = false
+goes_on_in_run SelectMasterFile = false
+goes_on_in_run SelectFile = false
+goes_on_in_run ReadBinary = false
+goes_on_in_run SelectPace = false
 goes_on_in_run EncryptedNonce = true
 goes_on_in_run MapNonce = true
 goes_on_in_run PerformKeyAgreement = true
 goes_on_in_run MutualAuthentication = true
-goes_on_in_run kind = false
+goes_on_in_run NoStep = false
 
 -- Files by number: EF.CardAccess is 0, EF.CardSecurity is 1, data group n is n + 1.
 abbrev pub card_access : ℕ

@@ -1,20 +1,22 @@
 -- Legal journals: each moment is what the definitions make of what came and of the moments before it.
-use Rattle.std.specs.Prelude.{◌≡◌, ℕ, ◌≤◌, ◌==◌, ◌||◌, true, false, List, [], ◌∷◌, ◌++◌, length, Option, Some, None, IfSome, if◌then◌else◌}
+use Rattle.std.specs.Prelude.{◌≡◌, ℕ, ◌<◌, ◌≤◌, ◌==◌, ◌||◌, true, false, List, [], ◌∷◌, ◌++◌, length, Option, Some, None, IfSome, if◌then◌else◌}
 use Rattle.eid_apdu.specs.Command.{PlainCommand, Spells}
 use Rattle.eid_apdu.specs.Answer.{PlainReply, spelled}
 use Rattle.eid_copro.specs.Asks.{fits}
+use Rattle.eid_copro.specs.Told.{Source, AnswersFrom}
 use Rattle.eid_copro.specs.declared.ask.Ask.{Ask}
 use Rattle.eid_copro.specs.declared.ask.Question.{Question}
 use Rattle.eid_copro.specs.declared.ask.Answer.{Answer}
-use Rattle.eid_record.specs.Plain.{FullRecord}
+use Rattle.eid_record.specs.Plain.{FullRecord, PlainEffect}
 use Rattle.eid_sm.specs.Keys.{ChannelState, next_counter}
 use Rattle.eid_sm.specs.Commands.{IsProtected, LacksObjects}
 use Rattle.eid_sm.specs.Replies.{sealed}
-use Rattle.eid_model.specs.Moments.{Event, PoweredOn, PoweredOff, Received, PlainMoment, on, live}
+use Rattle.eid_model.specs.Moments.{Event, PoweredOn, PoweredOff, Received, PlainMoment, on, live, script, asked, AreSteady}
 use Rattle.eid_model.specs.Runs.{answers_of}
 use Rattle.eid_model.specs.Sessions.{state_of, channel}
 use Rattle.eid_model.specs.Rules.{Heard, NoCommand, MissingObjects, WrongObjects, Command, plain_of, Situation}
-use Rattle.eid_model.specs.Answers.{Outcome, outcome, situation, question}
+use Rattle.eid_model.specs.Answers.{Outcome, outcome, situation, question, due}
+use Rattle.eid_model.specs.Ledger.{kept, pending, MayFind}
 
 -- the longest body of one command
 abbrev pub MAX_BODY : ℕ
@@ -39,10 +41,6 @@ abbrev pub IsHeard : Option ChannelState → List ℕ → Heard → Type 0
 IsHeard None bytes heard = IsHeardPlain bytes heard
 IsHeard (Some ch) bytes heard = IsHeardProtected ch bytes heard
 
--- the record kept; no kind of this stage commits, so it is the opening one
-abbrev pub kept : FullRecord → List PlainMoment → FullRecord
-kept opening moments = opening
-
 -- a moment of which nothing comes: power on or off, or bytes that reach a chip without power
 abbrev pub silent : Event → PlainMoment
 silent input = record { input = input; plain = None; asks = []; finished = 0; rule = 0; answer = None; sent = None }
@@ -60,37 +58,49 @@ sent_in None rule reply = spelled reply
 sent_in (Some ch) rule reply =
     if rule == 2 || rule == 3 then spelled reply else sealed ch.keys (next_counter (next_counter ch.counter)) reply
 
--- a moment that is answered
-abbrev pub answered : Option ChannelState → List ℕ → Heard → List Ask → Outcome → PlainMoment
-answered ch bytes heard asks outcome = record {
+-- a moment that is answered, after so many commits
+abbrev pub answered : Option ChannelState → List ℕ → Heard → List Ask → ℕ → Outcome → PlainMoment
+answered ch bytes heard asks finished outcome = record {
   input = Received bytes;
   plain = plain_of heard;
   asks = asks;
-  finished = 0;
+  finished = finished;
   rule = outcome.rule;
   answer = Some outcome.reply;
   sent = Some (sent_in ch outcome.rule outcome.reply);
 }
 
+-- a moment that is lost in a commit, after so many others
+abbrev pub lost_in : List ℕ → Heard → List Ask → ℕ → PlainMoment
+lost_in bytes heard asks finished =
+    record { input = Received bytes; plain = plain_of heard; asks = asks; finished = finished; rule = 0; answer = None; sent = None }
+
 -- where what was heard is answered, after these moments and these answers
 abbrev pub situation_after : FullRecord → List PlainMoment → Heard → List Answer → Situation
-situation_after opening before heard answers = situation (kept opening before) (state_of (live before)) heard answers
+situation_after opening before heard answers = situation (kept opening before) (state_of opening before) heard answers
 
--- a chip with power answers what it heard
-pub record IsAnswered (opening : FullRecord) (before : List PlainMoment) (bytes : List ℕ) (m : PlainMoment) : Type 0 where
+-- A chip with power puts the questions of what it heard, and commits the effects that are due: all of them, and then it
+-- answers by the first failed rule; or fewer, and the power is cut in the next commit.
+abbrev pub IsMoment : Option PlainReply → Option ChannelState → List ℕ → Heard → List PlainEffect → Outcome → PlainMoment → Type 0
+IsMoment (Some reply) ch bytes heard due outcome m = m ≡ answered ch bytes heard m.asks (length due) outcome
+IsMoment None ch bytes heard due outcome m = (m ≡ lost_in bytes heard m.asks m.finished) × (m.finished < length due)
+
+pub record IsPowered (opening : FullRecord) (before : List PlainMoment) (bytes : List ℕ) (m : PlainMoment) : Type 0 where
   pub heard : Heard
   pub hears : IsHeard (channel (live before)) bytes heard
   pub asked : AreAsked (λ answers. question (situation_after opening before heard answers)) [] m.asks
-  pub moment : m ≡ answered (channel (live before)) bytes heard m.asks (outcome (situation_after opening before heard (answers_of m.asks)))
+  pub moment : IsMoment m.answer (channel (live before)) bytes heard (due (situation_after opening before heard (answers_of m.asks)))
+      (outcome (situation_after opening before heard (answers_of m.asks))) m
 
 -- with power and without
 pub record IsHandled (opening : FullRecord) (before : List PlainMoment) (bytes : List ℕ) (m : PlainMoment) : Type 0 where
-  pub powered : on before ≡ true → IsAnswered opening before bytes m
+  pub powered : on before ≡ true → IsPowered opening before bytes m
   pub unpowered : on before ≡ false → m ≡ silent (Received bytes)
 
 -- the moment is legal after those before it, by what came
 abbrev pub IsLegalFor : Event → FullRecord → List PlainMoment → PlainMoment → Type 0
-IsLegalFor (PoweredOn found) opening before m = IfSome found (λ n. n ≡ (kept opening before).fields.number) × (m ≡ silent (PoweredOn found))
+IsLegalFor (PoweredOn found) opening before m =
+    IfSome found (MayFind (pending opening before) (kept opening before).fields.number) × (m ≡ silent (PoweredOn found))
 IsLegalFor PoweredOff opening before m = m ≡ silent PoweredOff
 IsLegalFor (Received bytes) opening before m = IsHandled opening before bytes m
 
@@ -101,3 +111,9 @@ IsLegalMoment opening before m = IsLegalFor m.input opening before m
 abbrev pub AreLegal : FullRecord → List PlainMoment → Type 0
 AreLegal opening [] = Unit {0}
 AreLegal opening (m ∷ before) = IsLegalMoment opening before m × AreLegal opening before
+
+-- no other journal without a cut is legal for this opening record, these inputs and this source of the coprocessor's
+-- answers
+abbrev pub IsOnlyJournal : Source → FullRecord → List PlainMoment → Type 0
+IsOnlyJournal source opening moments =
+    (other : List PlainMoment) → AreLegal opening other → AreSteady other → script other ≡ script moments → AnswersFrom source (asked other) → other ≡ moments

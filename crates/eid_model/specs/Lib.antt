@@ -8,3 +8,4 @@ pub mod Answers
 pub mod Legal
 pub mod Trace
 pub mod View
+pub mod Ledger

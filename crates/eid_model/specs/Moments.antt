@@ -1,6 +1,6 @@
 -- Moments and journals. A journal is a list of moments with the newest first: m ∷ before is the
 -- moment m, and those before it. This project's own.
-use Rattle.std.specs.Prelude.{◌≡◌, ℕ, Bool, true, false, ◌==◌, ◌&&◌, ◌||◌, not, List, [], ◌∷◌, ◌++◌, Option, is_some, if◌then◌else◌}
+use Rattle.std.specs.Prelude.{◌≡◌, ℕ, Bool, true, false, ◌==◌, ◌&&◌, ◌||◌, not, List, [], ◌∷◌, ◌++◌, Option, is_some, is_none, if◌then◌else◌}
 use Rattle.eid_apdu.specs.Command.{PlainCommand}
 use Rattle.eid_apdu.specs.Answer.{PlainReply}
 use Rattle.eid_copro.specs.declared.ask.Ask.{Ask}
@@ -23,11 +23,11 @@ pub record PlainMoment : Type 0 where
   pub answer : Option PlainReply
   pub sent : Option (List ℕ)
 
--- a chip that had power, and answered or not, has power after this
+-- the chip has power after this: a power-on that found a number; a command where the chip had power, and answered
 abbrev pub keeps_power : Event → Bool → Bool
-keeps_power (PoweredOn found) answered = is_some found
-keeps_power PoweredOff answered = false
-keeps_power (Received bytes) answered = answered
+keeps_power (PoweredOn found) stays = is_some found
+keeps_power PoweredOff stays = false
+keeps_power (Received bytes) stays = stays
 
 -- the chip has power: some power-on found a number, and neither power-off nor a lost moment stands after it
 abbrev pub on : List PlainMoment → Bool
@@ -51,9 +51,9 @@ ends_session_by rule = rule == 2 || rule == 3 || rule == 50
 abbrev pub ends_session : PlainMoment → Bool
 ends_session m = not (is_received m.input && is_some m.answer && not (ends_session_by m.rule))
 
--- power came or went with this moment, or it was lost
-abbrev pub ends_with_power : PlainMoment → Bool
-ends_with_power m = not (is_received m.input && is_some m.answer)
+-- an on, an off, or no answer
+abbrev pub leaves_no_session : PlainMoment → Bool
+leaves_no_session m = not (is_received m.input && is_some m.answer)
 
 -- the moments of the session
 abbrev pub live : List PlainMoment → List PlainMoment
@@ -81,13 +81,17 @@ abbrev pub asked : List PlainMoment → List Ask
 asked [] = []
 asked (m ∷ before) = asked before ++ m.asks
 
--- a moment that lost nothing
-abbrev pub is_steady : Event → Bool
-is_steady (PoweredOn found) = is_some found
-is_steady PoweredOff = true
-is_steady (Received bytes) = true
+-- the power was cut in this moment: a power-on that found no number, or a command that reached a chip with power and
+-- was not answered
+abbrev pub is_lost : Event → Bool → Bool
+is_lost (PoweredOn found) unanswered = is_none found
+is_lost PoweredOff unanswered = false
+is_lost (Received bytes) unanswered = unanswered
 
--- a journal in which each power-on found a number
+abbrev pub lost : PlainMoment → List PlainMoment → Bool
+lost m before = is_lost m.input (is_none m.answer && on before)
+
+-- a journal in which no power was cut
 abbrev pub AreSteady : List PlainMoment → Type 0
 AreSteady [] = Unit {0}
-AreSteady (m ∷ before) = AreSteady before × (is_steady m.input ≡ true)
+AreSteady (m ∷ before) = AreSteady before × (lost m before ≡ false)

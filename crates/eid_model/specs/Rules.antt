@@ -11,8 +11,8 @@ use Rattle.eid_model.specs.declared.kind.Kind.TheVariants.{SelectApplication, Se
 use Rattle.eid_model.specs.Kinds.{same_kind, kinds, has_instruction, has_parameters, is_by_short, file_of_short, file_of_id, card_access, card_security, application_id}
 use Rattle.eid_copro.specs.declared.ask.Answer.{Answer}
 use Rattle.eid_copro.specs.declared.ask.Answer.TheVariants as answers
-use Rattle.eid_pace.specs.Asking.{is_fault}
-use Rattle.eid_pace.specs.Keys.{token}
+use Rattle.eid_copro.specs.Asking.{is_fault}
+use Rattle.eid_pace.specs.Check.{terminal_token}
 use Rattle.eid_pace.specs.Selections.{PlainSelection}
 use Rattle.eid_pace.specs.SelectionIn.{selection_in}
 use Rattle.eid_model.specs.Bodies.{no_data, data_in, holds_value, holds_point}
@@ -51,7 +51,7 @@ pub record RuleRow : Type 0 where
 abbrev pub always : ℕ → Situation → ℕ
 always status s = status
 
--- some kind has the command's class
+-- the class is 00, 10 or 80
 abbrev pub is_class : ℕ → Bool
 is_class class = class == 0x00 || class == 0x10 || class == 0x80
 
@@ -77,14 +77,19 @@ file_meant s = if is_by_short s.command then file_of_short (s.command.p1 - 0x80)
 abbrev pub offset_meant : PlainCommand → ℕ
 offset_meant c = if is_by_short c then c.p2 else 256 * c.p1 + c.p2
 
--- what a kind names is there: the application, or a file by its identifier
+-- the identifier is known: it is the application's, or names a file. Whether the file is there is another rule.
 abbrev pub is_named : Option Kind → Situation → Bool
 is_named None s = true
 is_named (Some SelectApplication) s = bytes_eq s.command.body application_id
 is_named (Some SelectMasterFile) s = true
 is_named (Some SelectFile) s = is_some (file_of_id (number_of_two s.command.body))
 is_named (Some ReadBinary) s = not (is_by_short s.command) || is_some (file_meant s)
-is_named (Some kind) s = true
+is_named (Some SelectPace) s = true
+is_named (Some EncryptedNonce) s = true
+is_named (Some MapNonce) s = true
+is_named (Some PerformKeyAgreement) s = true
+is_named (Some MutualAuthentication) s = true
+is_named (Some NoStep) s = true
 
 -- the file's bytes, where it is present
 abbrev pub file_of : FullRecord → Option ℕ → Option (List ℕ)
@@ -128,7 +133,7 @@ is_own_point peer answers = false
 
 -- the token is the one that the secret and the chip's point give
 abbrev pub is_token : List ℕ → Phase → Bool
-is_token sent (HasSecret agreed) = bytes_eq sent (token agreed.shared agreed.chip_point)
+is_token sent (HasSecret agreed) = bytes_eq sent (terminal_token agreed)
 is_token sent phase = false
 
 -- whether the command can be heard at all

@@ -3,15 +3,15 @@ use Rattle.std.specs.Prelude.{ℕ, ◌+◌, ◌*◌, ◌-◌, ◌%◌, ◌^◌, 
 use Rattle.std.specs.Option.{option_or}
 use Rattle.eid_apdu.specs.Command.{PlainCommand}
 use Rattle.eid_record.specs.declared.fields.Password.{Password}
-use Rattle.eid_copro.specs.declared.ask.Answer.{Answer}
 use Rattle.eid_pace.specs.States.{PlainDone}
 use Rattle.eid_pace.specs.Check.{done_by}
-use Rattle.eid_sm.specs.Keys.{ChannelState, next_counter}
+use Rattle.eid_record.specs.Plain.{FullRecord}
+use Rattle.eid_sm.specs.Keys.{Keys, ChannelState}
 use Rattle.eid_model.specs.declared.kind.Kind.{Kind}
-use Rattle.eid_model.specs.declared.kind.Kind.TheVariants.{SelectApplication, SelectMasterFile, SelectFile, ReadBinary, MutualAuthentication}
-use Rattle.eid_model.specs.Kinds.{is_by_short, file_of_short, file_of_id, step_after}
-use Rattle.eid_model.specs.Moments.{PlainMoment}
-use Rattle.eid_model.specs.Runs.{done, run, next, Phase, Idle, HasSecret, phase, entered}
+use Rattle.eid_model.specs.declared.kind.Kind.TheVariants.{SelectApplication, SelectMasterFile, SelectFile, ReadBinary, SelectPace, EncryptedNonce, MapNonce, PerformKeyAgreement, MutualAuthentication, NoStep}
+use Rattle.eid_model.specs.Kinds.{is_by_short, file_of_short, file_of_id}
+use Rattle.eid_model.specs.Moments.{PlainMoment, live}
+use Rattle.eid_model.specs.Runs.{done, run, next, Phase, Idle, Chose, SentNonce, HasBase, HasSecret, phase}
 
 -- the kind that the newest moment carried out
 abbrev pub carried_out : PlainMoment → List PlainMoment → Option Kind
@@ -21,7 +21,14 @@ carried_out m before = done (next (run before)) m
 abbrev pub selects : Kind → Option Bool
 selects SelectApplication = Some true
 selects SelectMasterFile = Some false
-selects kind = None
+selects SelectFile = None
+selects ReadBinary = None
+selects SelectPace = None
+selects EncryptedNonce = None
+selects MapNonce = None
+selects PerformKeyAgreement = None
+selects MutualAuthentication = None
+selects NoStep = None
 
 -- two bytes as one number, big-endian
 abbrev pub number_of_two : List ℕ → ℕ
@@ -29,9 +36,16 @@ number_of_two bytes = 256 * slice_index bytes 0 + slice_index bytes 1
 
 -- the file that a command names where it is carried out: by its identifier, or by a short identifier
 abbrev pub names : Kind → PlainCommand → Option ℕ
+names SelectApplication c = None
+names SelectMasterFile c = None
 names SelectFile c = file_of_id (number_of_two c.body)
 names ReadBinary c = if is_by_short c then file_of_short (c.p1 - 0x80) else None
-names kind c = None
+names SelectPace c = None
+names EncryptedNonce c = None
+names MapNonce c = None
+names PerformKeyAgreement c = None
+names MutualAuthentication c = None
+names NoStep c = None
 
 abbrev pub selection : Option Kind → Option Bool
 selection kind = option_and_then selects kind
@@ -50,10 +64,26 @@ current [] = None
 current (m ∷ before) =
     if is_some (selection (carried_out m before)) then None else option_or (naming (carried_out m before) m.plain) (current before)
 
+-- the PACE that ends with a secret agreed
+abbrev pub done_with : Phase → Option PlainDone
+done_with Idle = None
+done_with (Chose choice) = None
+done_with (SentNonce sent) = None
+done_with (HasBase mapped) = None
+done_with (HasSecret agreed) = Some (done_by agreed)
+
 -- the PACE that ends with this kind, where the run has come so far
 abbrev pub pace_done : Kind → Phase → Option PlainDone
-pace_done MutualAuthentication (HasSecret agreed) = Some (done_by agreed)
-pace_done kind phase = None
+pace_done SelectApplication phase = None
+pace_done SelectMasterFile phase = None
+pace_done SelectFile phase = None
+pace_done ReadBinary phase = None
+pace_done SelectPace phase = None
+pace_done EncryptedNonce phase = None
+pace_done MapNonce phase = None
+pace_done PerformKeyAgreement phase = None
+pace_done MutualAuthentication phase = done_with phase
+pace_done NoStep phase = None
 
 abbrev pub pace_by : Option Kind → Phase → Option PlainDone
 pace_by None phase = None
@@ -68,19 +98,31 @@ abbrev pub pace : List PlainMoment → Option PlainDone
 pace [] = None
 pace (m ∷ before) = option_or (completed m before) (pace before)
 
--- the number of moments after the last PACE
-abbrev pub moments_since_pace : List PlainMoment → ℕ
-moments_since_pace [] = 0
-moments_since_pace (m ∷ before) = if is_some (completed m before) then 0 else moments_since_pace before + 1
+-- the keys that the newest moment opened a channel with: those of the PACE that it completed
+abbrev pub keys_of : PlainDone → Keys
+keys_of done = record { enc = done.enc; mac = done.mac }
 
--- the channel with the keys of a PACE, after so many commands with their replies: each message has raised the
+abbrev pub opened : PlainMoment → List PlainMoment → Option Keys
+opened m before = option_map keys_of (completed m before)
+
+-- the keys of the channel that was opened last
+abbrev pub channel_keys : List PlainMoment → Option Keys
+channel_keys [] = None
+channel_keys (m ∷ before) = option_or (opened m before) (channel_keys before)
+
+-- the number of commands after it was opened: in a session each moment is one
+abbrev pub commands_since_opening : List PlainMoment → ℕ
+commands_since_opening [] = 0
+commands_since_opening (m ∷ before) = if is_some (opened m before) then 0 else commands_since_opening before + 1
+
+-- a channel with these keys, after so many commands with their replies: each message has raised the send sequence
 -- counter by one
-abbrev pub channel_after : ℕ → PlainDone → ChannelState
-channel_after commands done = record { keys = record { enc = done.enc; mac = done.mac }; counter = 2 * commands % 2 ^ 128 }
+abbrev pub channel_after : ℕ → Keys → ChannelState
+channel_after commands keys = record { keys = keys; counter = 2 * commands % 2 ^ 128 }
 
--- the channel: the keys of the last PACE, and the counter
+-- the channel: the keys, and the send sequence counter
 abbrev pub channel : List PlainMoment → Option ChannelState
-channel session = option_map (channel_after (moments_since_pace session)) (pace session)
+channel session = option_map (channel_after (commands_since_opening session)) (channel_keys session)
 
 -- What is asked of the last PACE later.
 pub record PaceMemory : Type 0 where
@@ -106,8 +148,8 @@ pub record State : Type 0 where
   -- the keys and the counter of secure messaging
   pub channel : Option ChannelState
 
-abbrev pub state_of : List PlainMoment → State
-state_of session = record {
+abbrev pub state_in : List PlainMoment → State
+state_in session = record {
   next = next (run session);
   phase = phase (run session);
   selected = selected session;
@@ -116,32 +158,10 @@ state_of session = record {
   channel = channel session;
 }
 
+-- the state after these moments of a journal with this opening record
+abbrev pub state_of : FullRecord → List PlainMoment → State
+state_of opening moments = state_in (live moments)
+
 -- the state where a session begins
 abbrev pub fresh : State
 fresh = record { next = None; phase = Idle; selected = false; current = None; pace = None; channel = None }
-
--- a command and its reply raise the counter twice
-abbrev pub two_messages_later : ChannelState → ChannelState
-two_messages_later ch = record { keys = ch.keys; counter = next_counter (next_counter ch.counter) }
-
--- the state after a command of this kind was carried out, with these answers of the coprocessor
-abbrev pub advanced : Kind → PlainCommand → List Answer → State → State
-advanced kind c answers old = record {
-  next = step_after kind;
-  phase = entered kind c answers old.phase;
-  selected = unwrap_or (selects kind) old.selected;
-  current = if is_some (selects kind) then None else option_or (names kind c) old.current;
-  pace = option_or (option_map memory_of (pace_done kind old.phase)) old.pace;
-  channel = option_or (option_map (channel_after 0) (pace_done kind old.phase)) (option_map two_messages_later old.channel);
-}
-
--- the state after a command that was refused
-abbrev pub ended_run : State → State
-ended_run old = record {
-  next = None;
-  phase = Idle;
-  selected = old.selected;
-  current = old.current;
-  pace = old.pace;
-  channel = option_map two_messages_later old.channel;
-}

@@ -2,18 +2,21 @@
 ghost use Rattle.std.specs.Prelude.{◌≡◌, List, ◌∷◌, true};
 ghost use Rattle.eid_record.specs.Plain.{FullRecord};
 ghost use Rattle.eid_copro.specs.Told.{Source, AnswersFrom};
-ghost use Rattle.eid_model.specs.Moments.{PlainMoment, script, asked, live, ends_with_power, AreSteady};
+ghost use Rattle.eid_model.specs.Moments.{PlainMoment, script, asked, leaves_no_session, AreSteady};
 ghost use Rattle.eid_model.specs.Sessions.{state_of, fresh};
 ghost use Rattle.eid_model.specs.Legal.{AreLegal};
 
 /// There is one journal for an opening record, a script and a source of the coprocessor's answers, as
 /// long as the power stays steady: what came determines what was answered.
 pub fn law_one_journal()
-    ensures { (source : Source) (opening : FullRecord) (one other : List PlainMoment) → AreLegal opening one → AreLegal opening other → AreSteady one → AreSteady other → script one ≡ script other → AnswersFrom source (asked one) → AnswersFrom source (asked other) → one ≡ other }
+    ensures { (source : Source) (opening : FullRecord) (one other : List PlainMoment) → AreLegal opening one → AreLegal opening other
+        → AreSteady one → AreSteady other → script one ≡ script other
+        → AnswersFrom source (asked one) → AnswersFrom source (asked other) → one ≡ other }
 {}
 
 /// Power and want of power leave no session: after a power-on, a power-off and a lost moment there is no
 /// channel, no PACE and no run.
 pub fn law_fresh()
-    ensures { (opening : FullRecord) (m : PlainMoment) (before : List PlainMoment) → AreLegal opening (m ∷ before) → ends_with_power m ≡ true → state_of (live (m ∷ before)) ≡ fresh }
+    ensures { (opening : FullRecord) (m : PlainMoment) (before : List PlainMoment) → AreLegal opening (m ∷ before)
+        → leaves_no_session m ≡ true → state_of opening (m ∷ before) ≡ fresh }
 {}

@@ -1,18 +1,19 @@
 -- The selection that a body is, as a relation and as a function.
-use Rattle.std.proofs.Common.{◌≡◌, ◌↔◌, ℕ, ◌==◌, ◌&&◌, Bool, true, false, List, [], ◌∷◌, length, drop, Option, Some, None, option_map, if◌then◌else◌, refl, sym, ◌∙◌, ap}
+use Rattle.std.proofs.Common.{◌≡◌, ◌↔◌, ℕ, ◌==◌, ◌&&◌, Bool, true, false, List, [], ◌∷◌, length, drop, Option, Some, None, option_map, refl, sym, ◌∙◌, ap}
 use Rattle.std.specs.Option.{option_and_then}
 use Rattle.std.specs.Str.{bytes_eq}
 use Rattle.std.proofs.lemmas.Bool.{eqb-true}
 use Rattle.std.proofs.lemmas.Option.{cond_some, same_Some}
 use Rattle.std.proofs.lemmas.Slice.Eq.{bytes_eq-Decides}
-use Rattle.eid_bits.specs.Identifiers.{known_bytes}
-use Rattle.eid_bits.specs.declared.identifier.Known.TheVariants.{PaceAes128}
 use Rattle.eid_tlv.specs.Objects.{Object}
 use Rattle.eid_tlv.specs.Lists.{IsListOf, values}
 use Rattle.eid_tlv.specs.ListIn.{list_in}
 use Rattle.eid_tlv.proofs.ListIn.{list_in-exact}
 use Rattle.eid_pace.specs.Selections.{PlainSelection, IsPaceSelection, HasTemplate, template_value}
-use Rattle.eid_pace.specs.SelectionIn.{is_protocol, reference_in, template_in, template_if_any, selection_of, selection_by, selection_in}
+use Rattle.eid_pace.specs.Protocols.{protocol_bytes, protocol_with}
+use Rattle.eid_pace.specs.declared.protocol.Protocol.{Protocol}
+use Rattle.eid_pace.specs.declared.protocol.Protocol.TheVariants.{EcdhGmAes128}
+use Rattle.eid_pace.specs.SelectionIn.{protocol_in, reference_in, template_in, template_if_any, selection_of, selection_by, selection_in}
 use Rattle.eid_pace.proofs.Templates.{ends_so}
 use Rattle.eid_pace.proofs.Values.{same_values}
 
@@ -23,14 +24,25 @@ TemplateIs those (Some template) = (length template ≡ 5) × (those ≡ templat
 
 -- what the values of the three tags say of the selection
 record Says (protocols references templates : List (List ℕ)) (selection : PlainSelection) : Type 0 where
-  protocol : protocols ≡ known_bytes PaceAes128 ∷ []
+  protocol : protocols ≡ protocol_bytes selection.protocol ∷ []
   reference : references ≡ (selection.reference ∷ []) ∷ []
   template : TemplateIs templates selection.template
 
-protocol_is : (those : List (List ℕ)) → is_protocol those ≡ true → those ≡ known_bytes PaceAes128 ∷ []
-protocol_is [] h = cc
-protocol_is (value ∷ []) h = ap (λ (v : List ℕ). v ∷ []) ((bytes_eq-Decides value (known_bytes PaceAes128)).0 h)
-protocol_is (value ∷ other ∷ later) h = cc
+-- an identifier names exactly the protocol that has it
+protocol_named : (bytes : List ℕ) (protocol : Protocol) → protocol_with bytes ≡ Some protocol → bytes ≡ protocol_bytes protocol
+protocol_named bytes EcdhGmAes128 h =
+    let same = cond_some (bytes_eq bytes (protocol_bytes EcdhGmAes128)) EcdhGmAes128 EcdhGmAes128 h in
+    (bytes_eq-Decides bytes (protocol_bytes EcdhGmAes128)).0 same.0
+
+pub named_protocol : (bytes : List ℕ) (protocol : Protocol) → bytes ≡ protocol_bytes protocol → protocol_with bytes ≡ Some protocol
+named_protocol bytes EcdhGmAes128 is =
+    let same = (bytes_eq-Decides bytes (protocol_bytes EcdhGmAes128)).1 is in
+    rw same refl
+
+protocol_is : (those : List (List ℕ)) (protocol : Protocol) → protocol_in those ≡ Some protocol → those ≡ protocol_bytes protocol ∷ []
+protocol_is [] protocol h = cc
+protocol_is (value ∷ []) protocol h = ap (λ (v : List ℕ). v ∷ []) (protocol_named value protocol h)
+protocol_is (value ∷ other ∷ later) protocol h = cc
 
 reference_is : (those : List (List ℕ)) (reference : ℕ) → reference_in those ≡ Some reference → those ≡ (reference ∷ []) ∷ []
 reference_is [] reference h = cc
@@ -88,34 +100,33 @@ are_templates those (Some template) is = rw is.1 (ap (λ (o : Option (List ℕ))
 
 says : (protocols references templates : List (List ℕ)) (selection : PlainSelection) → selection_by protocols references templates ≡ Some selection
     → Says protocols references templates selection
-says protocols references templates selection h = by (is_protocol protocols) refl h where
-  none : None ≡ Some selection → ⊥
-  none h = cc
+says protocols references templates selection h =
+    parts (protocol_in protocols) refl (reference_in references) refl (template_if_any templates) refl h where
+      none : None ≡ Some selection → ⊥
+      none h = cc
 
-  parts : is_protocol protocols ≡ true → (r : Option ℕ) → reference_in references ≡ r → (t : Option (Option (List ℕ))) → template_if_any templates ≡ t
-      → selection_of r t ≡ Some selection → Says protocols references templates selection
-  parts named None e t f h = absurd (none h)
-  parts named (Some r) e None f h = absurd (none h)
-  parts named (Some r) e (Some t) f h =
-      let same = same_Some (record { reference = r; template = t }) selection h in
-      record {
-        protocol = protocol_is protocols named;
-        reference = reference_is references selection.reference (e ∙ ap (λ (s : PlainSelection). Some s.reference) same);
-        template = templates_are templates selection.template (f ∙ ap (λ (s : PlainSelection). Some s.template) same);
-      }
-
-  by : (b : Bool) → is_protocol protocols ≡ b → (if b then selection_of (reference_in references) (template_if_any templates) else None) ≡ Some selection
-      → Says protocols references templates selection
-  by true named h = parts named (reference_in references) refl (template_if_any templates) refl h
-  by false named h = absurd (none h)
+      parts : (p : Option Protocol) → protocol_in protocols ≡ p → (r : Option ℕ) → reference_in references ≡ r
+          → (t : Option (Option (List ℕ))) → template_if_any templates ≡ t → selection_of p r t ≡ Some selection
+          → Says protocols references templates selection
+      parts None d r e t f h = absurd (none h)
+      parts (Some p) d None e t f h = absurd (none h)
+      parts (Some p) d (Some r) e None f h = absurd (none h)
+      parts (Some p) d (Some r) e (Some t) f h =
+          let same = same_Some (record { protocol = p; reference = r; template = t }) selection h in
+          record {
+            protocol = protocol_is protocols selection.protocol (d ∙ ap (λ (s : PlainSelection). Some s.protocol) same);
+            reference = reference_is references selection.reference (e ∙ ap (λ (s : PlainSelection). Some s.reference) same);
+            template = templates_are templates selection.template (f ∙ ap (λ (s : PlainSelection). Some s.template) same);
+          }
 
 said : (protocols references templates : List (List ℕ)) (selection : PlainSelection) → Says protocols references templates selection
     → selection_by protocols references templates ≡ Some selection
 said protocols references templates selection is =
-    let named : is_protocol protocols ≡ true = ap is_protocol is.protocol in
+    let protocol : protocol_in protocols ≡ Some selection.protocol =
+    ap protocol_in is.protocol ∙ named_protocol (protocol_bytes selection.protocol) selection.protocol refl in
     let reference : reference_in references ≡ Some selection.reference = ap reference_in is.reference in
     let template = are_templates templates selection.template is.template in
-    rw (named, reference, template) refl
+    rw (protocol, reference, template) refl
 
 has_template : (body : List ℕ) (list : List Object) (template : Option (List ℕ)) → IsListOf list body → TemplateIs (values 0x7F4C list) template
     → HasTemplate body template

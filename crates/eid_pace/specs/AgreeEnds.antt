@@ -4,7 +4,7 @@ use Rattle.std.specs.Prelude.{◌≡◌, ℕ, true, false, List, [], ◌∷◌, 
 use Rattle.std.specs.Str.{bytes_eq}
 use Rattle.eid_copro.specs.declared.ask.Ask.{Ask}
 use Rattle.eid_copro.specs.declared.ask.Answer.TheVariants as answers
-use Rattle.eid_pace.specs.Asking.{pair_ask, agree_ask}
+use Rattle.eid_copro.specs.Asking.{pair_ask, agree_ask}
 use Rattle.eid_pace.specs.Rules.{fault_rule, same_point_rule, no_point_rule}
 use Rattle.eid_pace.specs.States.{PlainMapped, PlainAgreed}
 

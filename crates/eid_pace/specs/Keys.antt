@@ -1,8 +1,6 @@
 -- The keys, the tokens and the identity of PACE (BSI TR-03110-3), for AES-128.
 use Rattle.std.specs.Prelude.{ℕ, List, [], ◌++◌, replicate, slice_range}
 use Rattle.eid_aes.specs.Cbc.{cbc_encrypted}
-use Rattle.eid_bits.specs.Identifiers.{known_bytes}
-use Rattle.eid_bits.specs.declared.identifier.Known.TheVariants.{PaceAes128}
 use Rattle.eid_cmac.specs.Cmac.{mac8}
 use Rattle.eid_cmac.specs.Derivation.{derived}
 use Rattle.eid_tlv.specs.Objects.{object}
@@ -15,19 +13,21 @@ password_key digits = derived digits [] 3
 abbrev pub encrypted_nonce : List ℕ → List ℕ → List ℕ
 encrypted_nonce digits nonce = cbc_encrypted (password_key digits) (replicate 16 0) nonce
 
--- of the secret that was agreed: the key that encrypts, and the one that codes are made with
+-- of the secret that was agreed: the key of encryption, and that of MACs
 abbrev pub enc_key : List ℕ → List ℕ
 enc_key shared = derived shared [] 1
 
 abbrev pub mac_key : List ℕ → List ℕ
 mac_key shared = derived shared [] 2
 
--- the bytes of a token: the protocol, and the ephemeral point of the side that the token is sent to
-unfoldable pub token_object : List ℕ → List ℕ
-token_object point = object 0x7F49 (object 0x06 (known_bytes PaceAes128) ++ object 0x86 point)
+-- the bytes of a token: the object identifier of the protocol, and the ephemeral point of the side that the
+-- token is sent to
+unfoldable pub token_object : (protocol point : List ℕ) → List ℕ
+token_object protocol point = object 0x7F49 (object 0x06 protocol ++ object 0x86 point)
 
-abbrev pub token : List ℕ → List ℕ → List ℕ
-token shared point = mac8 (mac_key shared) (token_object point)
+-- their MAC
+abbrev pub token : (key protocol point : List ℕ) → List ℕ
+token key protocol point = mac8 key (token_object protocol point)
 
 -- the X half of the chip's ephemeral point
 abbrev pub identity_of : List ℕ → List ℕ

@@ -1,9 +1,9 @@
 pub mod Rules
+pub mod Protocols
 pub mod Keys
 pub mod States
 pub mod Selections
 pub mod SelectionIn
-pub mod Asking
 pub mod NonceEnds
 pub mod MapEnds
 pub mod AgreeEnds

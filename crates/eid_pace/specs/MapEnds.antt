@@ -3,7 +3,7 @@
 use Rattle.std.specs.Prelude.{ℕ, List, [], ◌∷◌, None, Result, Ok, Err}
 use Rattle.eid_copro.specs.declared.ask.Ask.{Ask}
 use Rattle.eid_copro.specs.declared.ask.Answer.TheVariants as answers
-use Rattle.eid_pace.specs.Asking.{pair_ask, map_ask}
+use Rattle.eid_copro.specs.Asking.{pair_ask, map_ask}
 use Rattle.eid_pace.specs.Rules.{fault_rule, no_point_rule}
 use Rattle.eid_pace.specs.States.{PlainNonceSent, PlainMapped}
 

@@ -2,7 +2,7 @@
 use Rattle.std.specs.Prelude.{ℕ, List, [], ◌∷◌, Result, Ok, Err}
 use Rattle.eid_copro.specs.declared.ask.Ask.{Ask}
 use Rattle.eid_copro.specs.declared.ask.Answer.TheVariants as answers
-use Rattle.eid_pace.specs.Asking.{nonce_ask}
+use Rattle.eid_copro.specs.Asking.{nonce_ask}
 use Rattle.eid_pace.specs.Keys.{encrypted_nonce}
 use Rattle.eid_pace.specs.Rules.{fault_rule}
 use Rattle.eid_pace.specs.States.{PlainChoice, PlainNonceSent}

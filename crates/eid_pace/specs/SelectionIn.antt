@@ -1,17 +1,18 @@
 -- The selection that a body is, as a function, where it is one.
-use Rattle.std.specs.Prelude.{ℕ, ◌==◌, ◌&&◌, Bool, false, List, [], ◌∷◌, length, drop, Option, Some, None, option_map, option_and_then, if◌then◌else◌}
+use Rattle.std.specs.Prelude.{ℕ, ◌==◌, ◌&&◌, List, [], ◌∷◌, length, drop, if◌then◌else◌}
+use Rattle.std.specs.Prelude.{Option, Some, None, option_map, option_and_then}
 use Rattle.std.specs.Str.{bytes_eq}
-use Rattle.eid_bits.specs.Identifiers.{known_bytes}
-use Rattle.eid_bits.specs.declared.identifier.Known.TheVariants.{PaceAes128}
 use Rattle.eid_tlv.specs.Lists.{values}
 use Rattle.eid_tlv.specs.ListIn.{list_in}
+use Rattle.eid_pace.specs.Protocols.{protocol_with}
 use Rattle.eid_pace.specs.Selections.{PlainSelection, template_value}
+use Rattle.eid_pace.specs.declared.protocol.Protocol.{Protocol}
 
--- one value, the protocol
-abbrev pub is_protocol : List (List ℕ) → Bool
-is_protocol [] = false
-is_protocol (value ∷ []) = bytes_eq value (known_bytes PaceAes128)
-is_protocol (value ∷ other ∷ later) = false
+-- one value, a protocol
+abbrev pub protocol_in : List (List ℕ) → Option Protocol
+protocol_in [] = None
+protocol_in (value ∷ []) = protocol_with value
+protocol_in (value ∷ other ∷ later) = None
 
 abbrev pub one_byte : List ℕ → Option ℕ
 one_byte [] = None
@@ -36,15 +37,17 @@ template_if_any [] = Some None
 template_if_any (value ∷ []) = option_map Some (template_in value)
 template_if_any (value ∷ other ∷ later) = None
 
-abbrev pub selection_of : Option ℕ → Option (Option (List ℕ)) → Option PlainSelection
-selection_of None template = None
-selection_of (Some reference) None = None
-selection_of (Some reference) (Some template) = Some (record { reference = reference; template = template })
+abbrev pub selection_of : Option Protocol → Option ℕ → Option (Option (List ℕ)) → Option PlainSelection
+selection_of None reference template = None
+selection_of (Some protocol) None template = None
+selection_of (Some protocol) (Some reference) None = None
+selection_of (Some protocol) (Some reference) (Some template) =
+    Some (record { protocol = protocol; reference = reference; template = template })
 
 -- by the values of 80, 83 and 7F4C
 abbrev pub selection_by : List (List ℕ) → List (List ℕ) → List (List ℕ) → Option PlainSelection
 selection_by protocols references templates =
-    if is_protocol protocols then selection_of (reference_in references) (template_if_any templates) else None
+    selection_of (protocol_in protocols) (reference_in references) (template_if_any templates)
 
 unfoldable pub selection_in : List ℕ → Option PlainSelection
 selection_in body = option_and_then (λ list. selection_by (values 0x80 list) (values 0x83 list) (values 0x7F4C list)) (list_in body)

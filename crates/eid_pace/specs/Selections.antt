@@ -1,15 +1,18 @@
 -- The selection of PACE: the body of MSE:Set AT (BSI TR-03110-3), and how it is answered.
 use Rattle.std.specs.Prelude.{◌≡◌, ℕ, ◌==◌, List, [], ◌∷◌, ◌++◌, length, Option, Some, None, Result, Ok, Err, if◌then◌else◌}
 use Rattle.eid_bits.specs.Identifiers.{known_bytes}
-use Rattle.eid_bits.specs.declared.identifier.Known.TheVariants.{PaceAes128, AtTemplate}
+use Rattle.eid_bits.specs.declared.identifier.Known.TheVariants.{AtTemplate}
 use Rattle.eid_record.specs.declared.fields.Password.TheVariants.{Can}
 use Rattle.eid_tlv.specs.Objects.{object}
 use Rattle.eid_tlv.specs.Lists.{HasValues}
+use Rattle.eid_pace.specs.Protocols.{protocol_bytes}
 use Rattle.eid_pace.specs.Rules.{form_rule, password_rule}
 use Rattle.eid_pace.specs.States.{PlainChoice}
+use Rattle.eid_pace.specs.declared.protocol.Protocol.{Protocol}
 
--- what it names: a password by its reference, and the holder's template where there is one
+-- what it names: the protocol, a password by its reference, and the holder's template where there is one
 pub record PlainSelection : Type 0 where
+  pub protocol : Protocol
   pub reference : ℕ
   pub template : Option (List ℕ)
 
@@ -21,10 +24,10 @@ abbrev pub HasTemplate : List ℕ → Option (List ℕ) → Type 0
 HasTemplate body None = HasValues 0x7F4C [] body
 HasTemplate body (Some template) = (length template ≡ 5) × HasValues 0x7F4C (template_value template ∷ []) body
 
--- the body is a list of data objects with one 80, the protocol, one 83 of one byte, the reference, and at most
+-- the body is a list of data objects with one 80, a protocol, one 83 of one byte, the reference, and at most
 -- one 7F4C; they stand in any order, and others may stand between them
 pub record IsPaceSelection (body : List ℕ) (selection : PlainSelection) : Type 0 where
-  pub protocol : HasValues 0x80 (known_bytes PaceAes128 ∷ []) body
+  pub protocol : HasValues 0x80 (protocol_bytes selection.protocol ∷ []) body
   pub reference : HasValues 0x83 ((selection.reference ∷ []) ∷ []) body
   pub template : HasTemplate body selection.template
 
@@ -32,4 +35,6 @@ pub record IsPaceSelection (body : List ℕ) (selection : PlainSelection) : Type
 abbrev pub chosen_by : Option PlainSelection → Result PlainChoice ℕ
 chosen_by None = Err form_rule
 chosen_by (Some selection) =
-    if selection.reference == 2 then Ok (record { password = Can; template = selection.template }) else Err password_rule
+    if selection.reference == 2
+    then Ok (record { protocol = selection.protocol; password = Can; template = selection.template })
+    else Err password_rule

@@ -1,9 +1,11 @@
 -- Where PACE stands between two steps: what later steps need, as plain values.
 use Rattle.std.specs.Prelude.{ℕ, List, Option}
 use Rattle.eid_record.specs.declared.fields.Password.{Password}
+use Rattle.eid_pace.specs.declared.protocol.Protocol.{Protocol}
 
 -- what the selection chose
 pub record PlainChoice : Type 0 where
+  pub protocol : Protocol
   pub password : Password
   pub template : Option (List ℕ)
 
@@ -26,6 +28,7 @@ pub record PlainAgreed : Type 0 where
 
 -- after the tokens
 pub record PlainDone : Type 0 where
+  pub protocol : Protocol
   pub password : Password
   pub template : Option (List ℕ)
   pub identity : List ℕ

@@ -14,7 +14,7 @@ use Rattle.eid_pace.specs.declared.nonce_sent.NonceSent.{NonceSent}
 use Rattle.eid_pace.specs.declared.selection.Selection.{Selection}
 
 abbrev pub choice_view : Choice → PlainChoice
-choice_view c = record { password = c.password; template = option_map template_bytes c.template }
+choice_view c = record { protocol = c.protocol; password = c.password; template = option_map template_bytes c.template }
 
 abbrev pub chosen_view : Chosen → PlainChoice
 chosen_view s = choice_view s.choice
@@ -35,6 +35,7 @@ agreed_view s = record {
 
 abbrev pub done_view : Done → PlainDone
 done_view d = record {
+  protocol = d.protocol;
   password = d.password;
   template = option_map template_bytes d.template;
   identity = d.identity;
@@ -43,7 +44,7 @@ done_view d = record {
 }
 
 abbrev pub selection_view : Selection → PlainSelection
-selection_view s = record { reference = s.reference; template = option_map template_bytes s.template }
+selection_view s = record { protocol = s.protocol; reference = s.reference; template = option_map template_bytes s.template }
 
 -- a choice, or the number of the rule
 abbrev pub selected : Result Chosen Rule → Result PlainChoice ℕ

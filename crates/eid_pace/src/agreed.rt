@@ -1,13 +1,15 @@
 use crate::choice::Choice;
 use crate::keys::{self, enc_key, identity_of, mac_key};
+use crate::protocol::Protocol;
 use crate::rules::WRONG_TOKEN;
+use eid_aes::Aes;
 use eid_base::{Point, Rule};
 use eid_bits::Template;
 use eid_record::Password;
 use eid_store::Receipt;
 
 /// A secret was agreed; the tokens are still to come.
-#[derive(Debug, Drop)]
+#[derive(Drop)]
 pub struct Agreed {
     pub(crate) choice: Choice,
     pub(crate) chip_point: Point,
@@ -16,16 +18,17 @@ pub struct Agreed {
 }
 
 /// What a PACE that succeeded leaves.
-#[derive(Debug, Drop)]
+#[derive(Drop)]
 pub struct Done {
+    pub protocol: Protocol,
     pub password: Password,
     /// The template that the holder granted, if the selection had one.
     pub template: Option<Template>,
     /// The X half of the chip's ephemeral point, by which terminal authentication names the chip.
     pub identity: [u8; 32],
-    /// The key that encrypts.
+    /// The key of encryption.
     pub enc: [u8; 16],
-    /// The key that codes are made with.
+    /// The key of MACs.
     pub mac: [u8; 16],
 }
 
@@ -42,18 +45,22 @@ impl Agreed {
         ensures { given done_view result ≡ check_given (agreed_view self) token.now }
     {
         let _ = paid;
-        if *token != keys::token(&self.shared, &self.chip_point) {
+        let mac = mac_key(&self.shared);
+        let key = Aes::<10>::new(&mac);
+        let protocol = self.choice.protocol.identifier();
+        if *token != keys::token(&key, protocol, &self.chip_point) {
             return Err(WRONG_TOKEN);
         }
         Ok((
             Done {
+                protocol: self.choice.protocol,
                 password: self.choice.password,
                 template: self.choice.template,
                 identity: identity_of(&self.chip_point),
                 enc: enc_key(&self.shared),
-                mac: mac_key(&self.shared),
+                mac,
             },
-            keys::token(&self.shared, &self.terminal_point),
+            keys::token(&key, protocol, &self.terminal_point),
         ))
     }
 }

@@ -12,7 +12,7 @@ use eid_record::{Password, Record};
 const CAN: u8 = 2;
 
 /// A password was chosen by MSE:Set AT for PACE.
-#[derive(Debug, Drop)]
+#[derive(Drop)]
 pub struct Chosen {
     pub(crate) choice: Choice,
 }
@@ -21,7 +21,7 @@ impl Chosen {
     ghost use Rattle.std.specs.Prelude.{◌≡◌, ◌≤◌};
     ghost use Rattle.eid_record.specs.View.{record_view};
     ghost use Rattle.eid_password.specs.Passwords.{digits_of};
-    ghost use Rattle.eid_pace.specs.Asking.{EndsAs};
+    ghost use Rattle.eid_copro.specs.Asking.{EndsAs};
     ghost use Rattle.eid_pace.specs.NonceEnds.{nonce_asks, nonce_given};
     ghost use Rattle.eid_pace.specs.Selections.{chosen_by};
     ghost use Rattle.eid_pace.specs.SelectionIn.{selection_in};
@@ -41,6 +41,7 @@ impl Chosen {
         }
         Ok(Chosen {
             choice: Choice {
+                protocol: selection.protocol,
                 password: Password::Can,
                 template: selection.template,
             },
@@ -56,9 +57,9 @@ impl Chosen {
         _by_can: bool,
         copro: &mut C,
     ) -> Result<(NonceSent, [u8; 16]), Rule>
-        requires { 1 ≤ C.spare copro.old }
+        requires { 1 ≤ (C.seen copro.old).spare }
         ensures { let digits = digits_of (record_view kept.now) (chosen_view self).password in
-            EndsAs C.log C.spare C.faults C.told copro.old copro.new nonce_asks (nonce_given (chosen_view self) digits) (given nonce_sent_view result) }
+            EndsAs (C.seen copro.old) (C.seen copro.new) nonce_asks (nonce_given (chosen_view self) digits) (given nonce_sent_view result) }
     {
         let Ok(nonce) = copro.nonce() else {
             return Err(FAULT);

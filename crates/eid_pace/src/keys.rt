@@ -1,15 +1,17 @@
 //! What is derived from a password and from the secret that was agreed (BSI TR-03110-3).
 ghost use Rattle.std.specs.Prelude.{◌≡◌, List};
+ghost use Rattle.eid_bits.specs.Identifiers.{known_bytes};
 ghost use Rattle.eid_pace.specs.Keys.{enc_key, encrypted_nonce, identity_of, mac_key, token};
 
 use eid_aes::Aes;
 use eid_base::Point;
+use eid_bits::Known;
 use eid_cmac::{cmac, derive};
 
-/// The number of the key that encrypts.
+/// The number of the key of encryption.
 const ENCRYPTION: u32 = 1;
-/// The number of the key that codes are made with.
-const CODE: u32 = 2;
+/// The number of the key of MACs.
+const MAC: u32 = 2;
 /// The number of the key of a password.
 const PASSWORD: u32 = 3;
 
@@ -23,33 +25,46 @@ pub fn encrypted_nonce(digits: &[u8], nonce: &[u8; 16]) -> [u8; 16]
     block
 }
 
-/// The key of secure messaging that encrypts.
+/// The key of encryption that an agreed secret gives.
 pub fn enc_key(shared: &[u8; 32]) -> [u8; 16]
     ensures { result ≡ enc_key shared.now }
 {
     derive(shared, &[], ENCRYPTION)
 }
 
-/// The key of secure messaging that codes are made with.
+/// The key of MACs that an agreed secret gives.
 pub fn mac_key(shared: &[u8; 32]) -> [u8; 16]
     ensures { result ≡ mac_key shared.now }
 {
-    derive(shared, &[], CODE)
+    derive(shared, &[], MAC)
 }
 
-/// What stands before the point in the bytes of a token: 7F49 {06 the protocol, 86 the point}.
-const BEFORE_POINT: [u8; 17] = [
-    0x7F, 0x49, 79, 0x06, 10, 0x04, 0x00, 0x7F, 0x00, 0x07, 2, 2, 4, 2, 2, 0x86, 65,
-];
+/// The tag of a public key as a data object, in its two bytes.
+const PUBLIC_KEY: [u8; 2] = [0x7F, 0x49];
+/// The tag of an object identifier.
+const IDENTIFIER: u8 = 0x06;
+/// The tag of a point.
+const POINT: u8 = 0x86;
+/// The length of a point.
+const POINT_SIZE: u8 = 65;
 
-/// The token over a point: the first 8 bytes of its code.
-pub fn token(shared: &[u8; 32], point: &Point) -> [u8; 8]
-    ensures { result ≡ token shared.now point.now }
+/// The authentication token (BSI TR-03110-3): the first 8 bytes of the MAC under `key` of a public key, which is a
+/// data object 7F49 {06 the object identifier of the protocol, 86 the ephemeral point of the side that the
+/// token is sent to}.
+pub fn token<const ROUNDS: usize>(key: &Aes<ROUNDS>, protocol: Known, point: &Point) -> [u8; 8]
+    ensures { result ≡ token key.now (known_bytes protocol) point.now }
 {
-    let key = Aes::<10>::new(&mac_key(shared));
-    let code = cmac(&key, &BEFORE_POINT, point, &[]);
+    let identifier = protocol.bytes();
+    let size = identifier.len() as u8;
+    let [first, second] = PUBLIC_KEY;
+    let head = [first, second, 2 + size + 2 + POINT_SIZE, IDENTIFIER, size];
+    let mut tail = [0; 67];
+    tail[0] = POINT;
+    tail[1] = POINT_SIZE;
+    tail[2..].copy_from_slice(point);
+    let mac = cmac(key, &head, identifier, &tail);
     let mut front = [0; 8];
-    front.copy_from_slice(&code[..8]);
+    front.copy_from_slice(&mac[..8]);
     front
 }
 

@@ -8,13 +8,16 @@ mod chosen;
 mod keys;
 mod mapped;
 mod nonce_sent;
-mod rules;
+mod protocol;
+pub mod rules;
 mod selection;
 
 pub use agreed::{Agreed, Done};
 pub use chosen::Chosen;
+pub use keys::token;
 pub use mapped::Mapped;
 pub use nonce_sent::NonceSent;
+pub use protocol::Protocol;
 pub use selection::law_selection;
 
 #[cfg(test)]

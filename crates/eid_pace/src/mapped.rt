@@ -5,7 +5,7 @@ use eid_base::{Point, Rule};
 use eid_copro::Coprocessor;
 
 /// The nonce was mapped to a base.
-#[derive(Debug, Drop)]
+#[derive(Drop)]
 pub struct Mapped {
     pub(crate) choice: Choice,
     pub(crate) base: Point,
@@ -13,7 +13,7 @@ pub struct Mapped {
 
 impl Mapped {
     ghost use Rattle.std.specs.Prelude.{◌≤◌};
-    ghost use Rattle.eid_pace.specs.Asking.{EndsAs};
+    ghost use Rattle.eid_copro.specs.Asking.{EndsAs};
     ghost use Rattle.eid_pace.specs.AgreeEnds.{agree_asks, agree_given};
     ghost use Rattle.eid_pace.specs.View.{mapped_view, agreed_view, given};
 
@@ -21,8 +21,9 @@ impl Mapped {
     /// is sent. Rule 50 is a fault of the coprocessor, rule 51 that both points are the same, rule 52 that
     /// what was agreed is no point.
     pub fn agree<C: Coprocessor>(self, peer: &Point, copro: &mut C) -> Result<(Agreed, Point), Rule>
-        requires { 2 ≤ C.spare copro.old }
-        ensures { EndsAs C.log C.spare C.faults C.told copro.old copro.new (agree_asks (mapped_view self) peer.now) (agree_given (mapped_view self) peer.now) (given agreed_view result) }
+        requires { 2 ≤ (C.seen copro.old).spare }
+        ensures { let mapped = mapped_view self in
+            EndsAs (C.seen copro.old) (C.seen copro.new) (agree_asks mapped peer.now) (agree_given mapped peer.now) (given agreed_view result) }
     {
         let Ok(pair) = copro.pair(Some(&self.base)) else {
             return Err(FAULT);

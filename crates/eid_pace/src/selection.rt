@@ -1,13 +1,14 @@
 //! The body that selects PACE (BSI TR-03110-3, MSE:Set AT).
 ghost use Rattle.std.specs.Prelude.{◌≡◌, ℕ, List, [], ◌∷◌, length, Option, Some, IfSome, IsSomeAnd, IsTrue, ◌↔◌, option_map};
-ghost use Rattle.eid_bits.specs.Identifiers.{known_bytes};
 ghost use Rattle.eid_bits.specs.Template.{template_bytes};
 ghost use Rattle.eid_tlv.specs.Lists.{HasValues};
+ghost use Rattle.eid_pace.specs.Protocols.{protocol_bytes};
 ghost use Rattle.eid_pace.specs.Selections.{HasTemplate, IsPaceSelection, PlainSelection, template_value};
 ghost use Rattle.eid_pace.specs.SelectionIn.{selection_in};
 ghost use Rattle.eid_pace.specs.View.{selection_view};
 
-use eid_bits::{Known, Template};
+use crate::protocol::Protocol;
+use eid_bits::Template;
 use eid_tlv::{Found, find};
 
 const PROTOCOL: u16 = 0x80;
@@ -16,9 +17,11 @@ const REFERENCE: u16 = 0x83;
 
 const TEMPLATE: u16 = 0x7F4C;
 
-/// What a selection names: a password by its reference, and the holder's template where there is one.
-#[derive(Clone, Copy, Debug)]
+/// What a selection names: the protocol, a password by its reference, and the holder's template where there is
+/// one.
+#[derive(Clone, Copy)]
 pub struct Selection {
+    pub protocol: Protocol,
     pub reference: u8,
     pub template: Option<Template>,
 }
@@ -27,9 +30,9 @@ pub struct Selection {
 pub fn read_selection(body: &[u8]) -> Option<Selection>
     ensures { option_map selection_view result ≡ selection_in body.now }
 {
-    if !names_protocol(body) {
+    let Some(protocol) = read_protocol(body) else {
         return None;
-    }
+    };
     let Some(reference) = read_reference(body) else {
         return None;
     };
@@ -37,6 +40,7 @@ pub fn read_selection(body: &[u8]) -> Option<Selection>
         return None;
     };
     Some(Selection {
+        protocol,
         reference,
         template,
     })
@@ -53,14 +57,15 @@ fn only_value(body: &[u8], tag: u16) -> Option<&[u8]>
     }
 }
 
-/// Whether the body has one 80, with the protocol.
-fn names_protocol(body: &[u8]) -> bool
-    ensures { IsTrue result ↔ HasValues 0x80 (known_bytes Known.PaceAes128 ∷ []) body.now }
+/// The protocol of the one 80.
+fn read_protocol(body: &[u8]) -> Option<Protocol>
+    ensures found { IfSome result (λ protocol. HasValues 0x80 (protocol_bytes protocol ∷ []) body.now) }
+    ensures only { (protocol : Protocol) → HasValues 0x80 (protocol_bytes protocol ∷ []) body.now → result ≡ Some protocol }
 {
-    match only_value(body, PROTOCOL) {
-        Some(protocol) => protocol == Known::PaceAes128.bytes(),
-        None => false,
-    }
+    let Some(value) = only_value(body, PROTOCOL) else {
+        return None;
+    };
+    Protocol::with_bytes(value)
 }
 
 /// The byte of the one 83.
@@ -80,7 +85,8 @@ fn read_reference(body: &[u8]) -> Option<u8>
 /// The template of the one 7F4C, or that there is no 7F4C; `None` where another thing stands there.
 fn find_template(body: &[u8]) -> Option<Option<Template>>
     ensures found { IfSome result (λ template. HasTemplate body.now (option_map template_bytes template)) }
-    ensures only { (template : Option (List ℕ)) → HasTemplate body.now template → IsSomeAnd result (λ found. option_map template_bytes found ≡ template) }
+    ensures only { (template : Option (List ℕ)) → HasTemplate body.now template
+        → IsSomeAnd result (λ found. option_map template_bytes found ≡ template) }
 {
     match find(body, TEMPLATE) {
         Found::Absent => Some(None),
@@ -98,7 +104,8 @@ const BEFORE_TEMPLATE: [u8; 13] = [0x06, 9, 0x04, 0x00, 0x7F, 0x00, 0x07, 3, 1, 
 /// The template in the value of a 7F4C.
 fn read_template(value: &[u8]) -> Option<Template>
     ensures found { IfSome result (λ template. value.now ≡ template_value (template_bytes template)) }
-    ensures only { (template : List ℕ) → length template ≡ 5 → value.now ≡ template_value template → IsSomeAnd result (λ found. template_bytes found ≡ template) }
+    ensures only { (template : List ℕ) → length template ≡ 5 → value.now ≡ template_value template
+        → IsSomeAnd result (λ found. template_bytes found ≡ template) }
 {
     let Some(bytes) = value.strip_prefix(&BEFORE_TEMPLATE) else {
         return None;

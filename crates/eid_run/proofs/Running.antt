@@ -1,59 +1,230 @@
 -- What a line made, and runs with one line more.
-use Rattle.std.proofs.Common.{◌≡◌, ◌≢◌, ℕ, ◌+◌, ◌<◌, ◌≤◌, true, IsTrue, List, [], ◌∷◌, ◌++◌, length, take, drop, get_or, map, Option, Some, None, Result, Ok, Err, refl, sym, ap, ◌∙◌, subst, append_assoc, append-nil, length-append, arith, inl, inr}
-use Rattle.std.specs.Prelude.{IsSome, OnOk, OnErr, is_some, slice_index}
+use Rattle.std.proofs.Common.{◌≡◌, ◌≢◌, ℕ, ◌+◌, ◌-◌, ◌<◌, ◌≤◌, Bool, true, false, ◌==◌, ◌||◌, IsTrue, List, [], ◌∷◌, ◌++◌, length, take, drop, get_or, map, Option, Some, None, Result, Ok, Err, refl, sym, ap, ◌∙◌, subst, append_assoc, append-nil, length-append, arith, inl, inr}
+use Rattle.std.specs.Prelude.{IsSome, OnOk, OnErr, is_some, is_none, slice_index, if◌then◌else◌}
+use Rattle.std.proofs.lemmas.Bool.Decides.{nat_tests}
 use Rattle.std.proofs.lemmas.List.{take_more, map-append, take-append-drop, drop_at}
+use Rattle.eid_base.specs.Faults.{Rose}
 use Rattle.eid_base.specs.Seen.{SinkSeen, Grew, GrewByPart}
-use Rattle.eid_cells.specs.Device.{Device}
+use Rattle.eid_cells.specs.Device.{Device, planned_at}
 use Rattle.eid_cells.specs.declared.tear.Tear.{Tear}
-use Rattle.eid_record.specs.Plain.{FullRecord}
+use Rattle.eid_record.specs.Plain.{FullRecord, PlainEffect}
 use Rattle.eid_store.specs.declared.durable.MountError.{MountError}
 use Rattle.eid_store.specs.declared.durable.MountError.TheVariants.{Cut, BadImage}
-use Rattle.eid_store.specs.Stands.{stands}
+use Rattle.eid_store.specs.Durable.{Mounts}
+use Rattle.eid_store.proofs.Laws.{powered, refitting}
+use Rattle.eid_copro.specs.Seen.{CoproSeen}
 use Rattle.eid_copro.specs.declared.ask.Ask.{Ask}
-use Rattle.eid_model.specs.Moments.{PlainMoment, asked, is_steady}
+use Rattle.eid_model.specs.Legal.{silent}
+use Rattle.eid_model.specs.Ledger.{kept, MayHold}
+use Rattle.eid_model.specs.Moments.{Event, PoweredOn, PoweredOff, Received, PlainMoment, on, asked, lost}
 use Rattle.eid_model.specs.Trace.{text, trace}
-use Rattle.eid_chip.specs.declared.running.Running.{Running}
-use Rattle.eid_chip.specs.declared.chip.Chip.{Chip}
-use Rattle.eid_chip.specs.declared.exchange.Exchange.{Exchange}
-use Rattle.eid_chip.specs.declared.exchange.HandledIn.{HandledIn}
-use Rattle.eid_chip.specs.declared.exchange.HandledIn.TheVariants.{Silent, Answered}
-use Rattle.eid_chip.specs.Fits.{Fits, Follows, IsSound, IsSoundLife, handled_in, found, is_silent_in}
+use Rattle.eid_model.proofs.Journals.{only_journal}
+use Rattle.eid_chip.specs.Commits.{WasCutBehind}
+use Rattle.eid_chip.specs.Fits.{Scene, scene, Fits, Follows, Handles, IsSound, IsSoundLife, Came, Silence, Answer, Loss, CameOver, moment_of, is_silence, leaves_off, found, is_off}
+use Rattle.eid_chip.specs.States.{ChipView, Living}
 use Rattle.eid_script.specs.declared.script.Line.{Line}
-use Rattle.eid_script.specs.Scripts.{ScriptLine, ApduLine, plain_line}
-use Rattle.eid_run.specs.Runs.{Happening, Did, Planned, line_for, journal, text_of, Scene, Made, DidLine, BrokeOffLine, IsFrontOfTrace, IsRunSoFar, DidSomeLines}
+use Rattle.eid_script.specs.Scripts.{ScriptLine, OnLine, OffLine, ApduLine, CutLine, plain_line}
+use Rattle.eid_run.specs.Runs.{LineEffect, Did, Planned, line_for, journal, is_plan, is_cut_line, line_of, text_of, was_cut, planned_by, IsLine, Keeps, DidLine, BrokeOffLine, IsFrontOfTrace, IsRunSoFar, RanLines, DidSomeLines, Outside}
 
-pub made_of : (old new : Scene) (log log_now : List Ask) (line : ScriptLine) (e m : PlainMoment) → Follows old.chip old.device old.cells new.chip new.device new.cells e → log_now ≡ log ++ e.asks → line_for e.input ≡ line → (slice_index old.cells 0 ≡ 1 → is_steady e.input ≡ true) → m ≡ e → Made old new log log_now line (Did m)
-made_of old new log log_now line e m follows logged carried steady same = subst (λ (x : PlainMoment). Made old new log log_now line (Did x)) (sym same) (record { comes = follows; logged = logged; carried = carried; steady = steady })
+-- ---- a power-on
 
-pub found_number : (r : Result ℕ MountError) → r ≢ Err Cut → r ≢ Err BadImage → is_some (found r) ≡ true
-found_number (Ok number) cut bad = refl
-found_number (Err Cut) cut bad = absurd (cut refl)
-found_number (Err BadImage) cut bad = absurd (bad refl)
+found_lost : (r : Result ℕ MountError) (powered : Bool) → r ≢ Err BadImage → was_cut powered (Did (silent (PoweredOn (found r)))) ≡ true → r ≡ Err Cut
+found_lost (Ok number) powered good lost = absurd (cc)
+found_lost (Err Cut) powered good lost = refl
+found_lost (Err BadImage) powered good lost = absurd (good refl)
 
-pub some_is_not_none : {A : Type 0} (o : Option A) → IsSome o → o ≡ None → ⊥
-some_is_not_none o some none = absurd (cc)
+found_kept : (r : Result ℕ MountError) (powered : Bool) → r ≢ Err BadImage → r ≢ Err Cut → was_cut powered (Did (silent (PoweredOn (found r)))) ≡ false
+found_kept (Ok number) powered good kept = refl
+found_kept (Err Cut) powered good kept = absurd (kept refl)
+found_kept (Err BadImage) powered good kept = absurd (good refl)
 
-pub handled_line : (bytes : List ℕ) (asks : List Ask) (came : HandledIn) (exchange : Exchange) → line_for (handled_in bytes asks came exchange).input ≡ ApduLine bytes
-handled_line bytes asks Silent exchange = refl
-handled_line bytes asks (Answered plain finished rule) exchange = refl
+-- a power-on, as the chip says it
+pub line_on : (old new : Scene) (r : Result ℕ MountError) (writes : ℕ) (log : List Ask) → r ≢ Err BadImage → Follows old new (silent (PoweredOn (found r))) → Mounts writes (record old.device { has_power = true }) new.device r
+    → IsLine old new log log OnLine (Did (silent (PoweredOn (found r))))
+line_on old new r writes log good follows device = record {
+  step = follows;
+  logged = sym (append-nil log);
+  carried = refl;
+  cause = λ lost. (device.cut (found_lost r (is_some old.chip.life) good lost)).rose;
+  unplanned = λ told none. found_kept r (is_some old.chip.life) good (λ is. let struck = device.struck told is in absurd (omega (arith, struck.0, none)));
+}
 
-pub handled_steady : (bytes : List ℕ) (asks : List Ask) (came : HandledIn) (exchange : Exchange) → is_steady (handled_in bytes asks came exchange).input ≡ true
-handled_steady bytes asks Silent exchange = refl
-handled_steady bytes asks (Answered plain finished rule) exchange = refl
+pub keeps_on : (old new : Scene) (r : Result ℕ MountError) (writes : ℕ) → r ≢ Err BadImage → Mounts writes (record old.device { has_power = true }) new.device r → IsSound new → OnErr r (new.chip.life ≡ None)
+    → slice_index new.cells 0 ≡ slice_index old.cells 0 → (OnOk r (is_off new.chip ≡ false)) → Keeps old new OnLine
+keeps_on old new (Ok number) writes good device sound off layout alive = record {
+  sound = sound;
+  dark = λ before is. absurd (cc);
+  layout = layout;
+  told = ap (λ (d : Device). d.told) device.mounted;
+  later = omega (arith, ap (λ (d : Device). d.cuts) device.mounted);
+  unplanned = λ told plain none. ap (λ (d : Device). d.planned) device.mounted ∙ rw none (omega arith);
+}
+keeps_on old new (Err Cut) writes good device sound off layout alive =
+    let cut = device.cut refl in
+    record {
+      sound = sound;
+      dark = λ before is. cut.power;
+      layout = layout;
+      told = cut.told;
+      later = cut.never_falls;
+      unplanned = λ told plain none. cut.planned;
+    }
+keeps_on old new (Err BadImage) writes good device sound off layout alive = absurd (good refl)
+
+-- ---- a power-off
+
+pub line_off : (old new : Scene) (log : List Ask) → Follows old new (silent PoweredOff) → IsLine old new log log OffLine (Did (silent PoweredOff))
+line_off old new log follows = record { step = follows; logged = sym (append-nil log); carried = refl; cause = λ lost. absurd (cc); unplanned = λ told none. refl }
+
+pub keeps_off : (old new : Scene) → new.chip.life ≡ None → new.cells ≡ old.cells → new.device ≡ record old.device { has_power = false } → Keeps old new OffLine
+keeps_off old new off cells device = record {
+  sound = subst (λ (l : Option Living). IsSoundLife l new.device new.cells) (sym off) tt;
+  dark = λ before is. ap (λ (d : Device). d.has_power) device;
+  layout = ap (λ (c : List ℕ). slice_index c 0) cells;
+  told = ap (λ (d : Device). d.told) device;
+  later = omega (arith, ap (λ (d : Device). d.cuts) device);
+  unplanned = λ told plain none. ap (λ (d : Device). d.planned) device ∙ none;
+}
+
+-- ---- a command
+
+came_input : (bytes : List ℕ) (asks : List Ask) (came : Came) → line_for (moment_of bytes asks came).input ≡ ApduLine bytes
+came_input bytes asks Silence = refl
+came_input bytes asks (Answer plain finished rule reply sent) = refl
+came_input bytes asks (Loss plain finished) = refl
 
 -- the moment has the questions that were put
-pub handled_asks : (bytes : List ℕ) (asks : List Ask) (came : HandledIn) (exchange : Exchange) → (is_silent_in came ≡ true → asks ≡ []) → (handled_in bytes asks came exchange).asks ≡ asks
-handled_asks bytes asks Silent exchange none = sym (none refl)
-handled_asks bytes asks (Answered plain finished rule) exchange none = refl
+came_asks : (bytes : List ℕ) (asks : List Ask) (came : Came) → (is_silence came ≡ true → asks ≡ []) → (moment_of bytes asks came).asks ≡ asks
+came_asks bytes asks Silence none = sym (none refl)
+came_asks bytes asks (Answer plain finished rule reply sent) none = refl
+came_asks bytes asks (Loss plain finished) none = refl
 
--- a command was handed over, and these questions are told
-pub made_told : (old new : Scene) (log room log_now : List Ask) (bytes : List ℕ) (asks told : List Ask) (came : HandledIn) (exchange : Exchange) (m : PlainMoment) → room ≡ log → log_now ≡ room ++ asks → (is_silent_in came ≡ true → asks ≡ []) → Follows old.chip old.device old.cells new.chip new.device new.cells (handled_in bytes asks came exchange)
-    → told ≡ asks → m ≡ handled_in bytes told came exchange → Made old new log log_now (ApduLine bytes) (Did m)
-made_told old new log room log_now bytes asks told came exchange m same logged none follows so is =
-    made_of old new log log_now (ApduLine bytes) (handled_in bytes asks came exchange) m follows
-    (logged ∙ ap (λ (l : List Ask). l ++ asks) same ∙ ap (λ (l : List Ask). log ++ l) (sym (handled_asks bytes asks came exchange none)))
-    (handled_line bytes asks came exchange) (λ one. handled_steady bytes asks came exchange)
-    (is ∙ ap (λ (a : List Ask). handled_in bytes a came exchange) so)
+rose_behind : (finished : ℕ) (old new : Device) → WasCutBehind finished old new → Rose old.cuts new.cuts
+rose_behind finished old new behind = subst (λ (n : ℕ). Rose n new.cuts) (ap (λ (d : Device). d.cuts) behind.wrote.device) behind.cut.rose
+
+came_cause : (powered : Bool) (bytes : List ℕ) (asks : List Ask) (came : Came) (old new : Device) → is_silence came ≡ true → powered ≡ false → was_cut powered (Did (moment_of bytes asks came)) ≡ true → Rose old.cuts new.cuts
+came_cause powered bytes asks came old new silent off lost = absurd (by came silent lost) where
+  by : (c : Came) → is_silence c ≡ true → was_cut powered (Did (moment_of bytes asks c)) ≡ true → ⊥
+  by Silence s l = let gone : was_cut powered (Did (moment_of bytes asks Silence)) ≡ false = rw off refl in cc
+  by (Answer plain finished rule reply sent) s l = cc
+  by (Loss plain finished) s l = cc
+
+-- the power was cut only where the count of cuts rose
+lost_rose : (powered : Bool) (bytes : List ℕ) (asks : List Ask) (came : Came) (old new : Device) → CameOver came old new → (is_silence came ≡ true → powered ≡ false) → was_cut powered (Did (moment_of bytes asks came)) ≡ true → Rose old.cuts new.cuts
+lost_rose powered bytes asks Silence old new over off lost = came_cause powered bytes asks Silence old new refl (off refl) lost
+lost_rose powered bytes asks (Answer plain finished rule reply sent) old new over off lost = absurd (cc)
+lost_rose powered bytes asks (Loss plain finished) old new over off lost = rose_behind finished old new over
+
+-- and never where no cut was planned
+lost_planned : (powered : Bool) (bytes : List ℕ) (asks : List Ask) (came : Came) (old new : Device) → CameOver came old new → (is_silence came ≡ true → powered ≡ false) → IsTrue old.told → old.planned ≡ 0 → was_cut powered (Did (moment_of bytes asks came)) ≡ false
+lost_planned powered bytes asks Silence old new over off told none = rw (off refl) refl
+lost_planned powered bytes asks (Answer plain finished rule reply sent) old new over off told none = refl
+lost_planned powered bytes asks (Loss plain finished) old new over off told none =
+    let still : over.between.told ≡ old.told = ap (λ (d : Device). d.told) over.wrote.device in
+    let struck = over.struck (still ∙ told) in
+    let planned : over.between.planned ≡ old.planned - over.wrote.writes = ap (λ (d : Device). d.planned) over.wrote.device in
+    absurd (omega (arith, struck.0, planned, none))
+
+silent_off : (b : Bool) (life : Option Living) → b ≡ is_none life → b ≡ true → is_some life ≡ false
+silent_off b None is s = refl
+silent_off b (Some living) is s = absurd (cc)
+
+pub line_handled : (before after : CoproSeen) (old new : Scene) (bytes : List ℕ) (came : Came) (log : List Ask) (told : List Ask) (m : PlainMoment) (handles : Handles before after old new bytes came) → before.log ≡ log → told ≡ handles.asks → m ≡ moment_of bytes told came
+    → IsLine old new log after.log (ApduLine bytes) (Did m)
+line_handled before after old new bytes came log told m handles same so is =
+    let event = moment_of bytes handles.asks came in
+    let off : is_silence came ≡ true → is_some old.chip.life ≡ false = λ s. silent_off (is_silence came) old.chip.life handles.silent s in
+    let line : IsLine old new log after.log (ApduLine bytes) (Did event) = record {
+      step = handles.follows;
+      logged = handles.were_asked.logged ∙ ap (λ (l : List Ask). l ++ handles.asks) same ∙ ap (λ (l : List Ask). log ++ l) (sym (came_asks bytes handles.asks came handles.unasked));
+      carried = came_input bytes handles.asks came;
+      cause = lost_rose (is_some old.chip.life) bytes handles.asks came old.device new.device handles.device off;
+      unplanned = lost_planned (is_some old.chip.life) bytes handles.asks came old.device new.device handles.device off;
+    } in
+    subst (λ (x : PlainMoment). IsLine old new log after.log (ApduLine bytes) (Did x)) (sym (is ∙ ap (λ (a : List Ask). moment_of bytes a came) so)) line
+
+pub keeps_handled : (before after : CoproSeen) (old new : Scene) (bytes : List ℕ) (came : Came) → Handles before after old new bytes came → Keeps old new (ApduLine bytes)
+keeps_handled before after old new bytes came handles = by came handles.device handles.silent handles.life where
+  by : (c : Came) → CameOver c old.device new.device → is_silence c ≡ is_off old.chip → is_off new.chip ≡ leaves_off c → Keeps old new (ApduLine bytes)
+  by Silence over silent life = record {
+    sound = handles.sound;
+    dark = λ before is. ap (λ (d : Device). d.has_power) over ∙ before (sym silent);
+    layout = handles.layout;
+    told = ap (λ (d : Device). d.told) over;
+    later = omega (arith, ap (λ (d : Device). d.cuts) over);
+    unplanned = λ told plain none. ap (λ (d : Device). d.planned) over ∙ none;
+  }
+  by (Answer plain finished rule reply sent) over silent life = record {
+    sound = handles.sound;
+    dark = λ before is. absurd (cc);
+    layout = handles.layout;
+    told = ap (λ (d : Device). d.told) over.device;
+    later = omega (arith, ap (λ (d : Device). d.cuts) over.device);
+    unplanned = λ told plain none. ap (λ (d : Device). d.planned) over.device ∙ rw none (omega arith);
+  }
+  by (Loss plain finished) over silent life = record {
+    sound = handles.sound;
+    dark = λ before is. over.cut.power;
+    layout = handles.layout;
+    told = over.cut.told ∙ ap (λ (d : Device). d.told) over.wrote.device;
+    later = omega (arith, over.cut.never_falls, ap (λ (d : Device). d.cuts) over.wrote.device);
+    unplanned = λ told plain none. over.cut.planned;
+  }
+
+-- ---- a plan
+
+sound_life : (life : Option Living) (old new : Device) (cells : List ℕ) → new.has_power ≡ old.has_power → IsSoundLife life old cells → IsSoundLife life new cells
+sound_life None old new cells same sound = tt
+sound_life (Some living) old new cells same sound = refitting living.store old new cells sound (same ∙ powered living.store old cells sound)
+
+planned_power : (write : ℕ) (device : Device) → (planned_by write device).has_power ≡ device.has_power
+planned_power write device = by (write == 0) where
+  by : (b : Bool) → (if b then device else planned_at write device).has_power ≡ device.has_power
+  by true = refl
+  by false = refl
+
+planned_told : (write : ℕ) (device : Device) → (planned_by write device).told ≡ device.told
+planned_told write device = by (write == 0) where
+  by : (b : Bool) → (if b then device else planned_at write device).told ≡ device.told
+  by true = refl
+  by false = refl
+
+planned_cuts : (write : ℕ) (device : Device) → (planned_by write device).cuts ≡ device.cuts
+planned_cuts write device = by (write == 0) where
+  by : (b : Bool) → (if b then device else planned_at write device).cuts ≡ device.cuts
+  by true = refl
+  by false = refl
+
+-- what the device does with a plan
+pub planned_is : (write : ℕ) (device : Device) → 0 < write → planned_at write device ≡ planned_by write device
+planned_is write device some =
+    let other : (write == 0) ≡ false = grind (arith, nat_tests) in
+    rw other refl
+
+pub planned_none : (write : ℕ) (device : Device) → write ≤ 0 → device ≡ planned_by write device
+planned_none write device none =
+    let is : (write == 0) ≡ true = grind (arith, nat_tests) in
+    rw is refl
+
+pub scene_planned : (chip : ChipView) (old new : Device) (cells cells_now : List ℕ) (write : ℕ) → new ≡ planned_by write old → cells_now ≡ cells → scene chip new cells_now ≡ record (scene chip old cells) { device = planned_by write old }
+scene_planned chip old new cells cells_now write is same = ap (λ (d : Device). scene chip d cells_now) is ∙ ap (λ (c : List ℕ). scene chip (planned_by write old) c) same
+
+pub line_planned : (old new : Scene) (write : ℕ) (tear : Tear) (log : List Ask) → new ≡ record old { device = planned_by write old.device } → IsLine old new log log (CutLine write tear) (Planned write tear)
+line_planned old new write tear log is = record { step = is; logged = sym (append-nil log); carried = refl; cause = λ lost. absurd (cc); unplanned = λ told none. refl }
+
+pub keeps_planned : (chip : ChipView) (old new : Device) (cells cells_now : List ℕ) (write : ℕ) (tear : Tear) → new ≡ planned_by write old → cells_now ≡ cells → IsSound (scene chip old cells) → Keeps (scene chip old cells) (scene chip new cells_now) (CutLine write tear)
+keeps_planned chip old new cells cells_now write tear is same sound =
+    let power : new.has_power ≡ old.has_power = ap (λ (d : Device). d.has_power) is ∙ planned_power write old in
+    record {
+      sound = rw same (sound_life chip.life old new cells power sound);
+      dark = λ before off. power ∙ before off;
+      layout = ap (λ (c : List ℕ). slice_index c 0) same;
+      told = ap (λ (d : Device). d.told) is ∙ planned_told write old;
+      later = omega (arith, ap (λ (d : Device). d.cuts) is, planned_cuts write old);
+      unplanned = λ told plain none. absurd (cc);
+    }
+
+-- ---- texts
 
 -- what holds on success, and on an error, by what follows from it
 pub on_ok : {A E P Q : Type 0} (r : Result A E) → (P → Q) → OnOk r P → OnOk r Q
@@ -65,17 +236,17 @@ on_err (Ok x) f p = _
 on_err (Err e) f p = f p
 
 -- a moment was made, and its text written, or a front of it
-pub did_line : (old new : Scene) (log log_now : List Ask) (line : ScriptLine) (m : PlainMoment) (before now : SinkSeen) → Made old new log log_now line (Did m) → (IsTrue before.tells → Grew before.written now.written (text m)) → DidLine old new log log_now line before now
+pub did_line : (old new : Scene) (log log_now : List Ask) (line : ScriptLine) (m : PlainMoment) (before now : SinkSeen) → IsLine old new log log_now line (Did m) → (IsTrue before.tells → Grew before.written now.written (text m)) → DidLine old new log log_now line before now
 did_line old new log log_now line m before now made written = record { happened = Did m; made = made; written = written }
 
-pub part_of_line : (old new : Scene) (log log_now : List Ask) (line : ScriptLine) (m : PlainMoment) (before now : SinkSeen) → Made old new log log_now line (Did m) → (IsTrue before.tells → GrewByPart before.written now.written (text m)) → BrokeOffLine old new log log_now line before now
+pub part_of_line : (old new : Scene) (log log_now : List Ask) (line : ScriptLine) (m : PlainMoment) (before now : SinkSeen) → IsLine old new log log_now line (Did m) → (IsTrue before.tells → GrewByPart before.written now.written (text m)) → BrokeOffLine old new log log_now line before now
 part_of_line old new log log_now line m before now made written = inr (record { moment = m; made = made; written = written })
 
-pub made_same : (old new : Scene) (log : List Ask) (line : ScriptLine) (e m : PlainMoment) → m ≡ e → Made old new log log line (Did e) → Made old new log log line (Did m)
-made_same old new log line e m same made = subst (λ (x : PlainMoment). Made old new log log line (Did x)) (sym same) made
+pub line_same : (old new : Scene) (log : List Ask) (line : ScriptLine) (e m : PlainMoment) → m ≡ e → IsLine old new log log line (Did e) → IsLine old new log log line (Did m)
+line_same old new log line e m same made = subst (λ (x : PlainMoment). IsLine old new log log line (Did x)) (sym same) made
 
 -- a plan writes nothing
-pub planned_line : (old new : Scene) (log : List Ask) (line : ScriptLine) (write : ℕ) (tear : Tear) (seen : SinkSeen) → Made old new log log line (Planned write tear) → DidLine old new log log line seen seen
+pub planned_line : (old new : Scene) (log : List Ask) (line : ScriptLine) (write : ℕ) (tear : Tear) (seen : SinkSeen) → IsLine old new log log line (Planned write tear) → DidLine old new log log line seen seen
 planned_line old new log line write tear seen made = record { happened = Planned write tear; made = made; written = λ tells. sym (append-nil seen.written) }
 
 -- what was appended is what stands behind
@@ -85,62 +256,157 @@ asks_behind log log_now asks logged = ap (drop (length log)) logged ∙ drop_at 
 pub no_shorter : (log log_now asks : List Ask) → log_now ≡ log ++ asks → length log ≤ length log_now
 no_shorter log log_now asks logged = let size : length log_now ≡ length log + length asks = ap length logged ∙ length-append log asks in omega arith
 
--- a chip without power fits the journal without moments
-pub new_fits : (chip : Chip) (device : Device) (cells : List ℕ) (opening : FullRecord) → chip.life ≡ None → stands cells ≡ Some opening → Fits chip device cells opening []
-new_fits chip device cells opening off standing =
-    subst (λ (l : Option Running). Fits (record { life = l }) device cells opening []) (sym off) (record { powered = refl; sound = tt; living = tt; standing = standing })
+pub some_is_not_none : {A : Type 0} (o : Option A) → IsSome o → o ≡ None → ⊥
+some_is_not_none o some none = absurd (cc)
+
+pub some_of : {A : Type 0} (o : Option A) → IsSome o → (x : A) × (o ≡ Some x)
+some_of None some = absurd (cc)
+some_of (Some x) some = (x, refl)
+
+-- cells that may hold a record stand for one
+pub holds_some : (p : Option PlainEffect) (full : FullRecord) (holds : Option FullRecord) → MayHold p full holds → IsSome holds
+holds_some None full holds is = rw is refl
+holds_some (Some effect) full holds (inl is) = rw is refl
+holds_some (Some effect) full holds (inr is) = rw is refl
+
+-- ---- runs
+
+-- a chip that is off has no life
+alive_on : (life : Option Living) (power : Bool) → is_some life ≡ power → power ≡ false → is_none life ≡ true
+alive_on None power is off = refl
+alive_on (Some living) power is off = absurd (cc)
+
+-- where the chip is on, its device has power
+powered_on : (s : Scene) (moments : List PlainMoment) (opening : FullRecord) → Fits s opening moments → (is_off s.chip ≡ true → s.device.has_power ≡ false) → s.device.has_power ≡ on moments
+powered_on s moments opening fits dark = by s.chip.life refl where
+  by : (life : Option Living) → s.chip.life ≡ life → s.device.has_power ≡ on moments
+  by None is = dark (ap is_none is) ∙ sym (ap is_some is) ∙ fits.powered
+  by (Some living) is =
+      let sound : IsSoundLife (Some living) s.device s.cells = subst (λ (l : Option Living). IsSoundLife l s.device s.cells) is fits.sound in
+      powered living.store s.device s.cells sound ∙ sym (ap is_some is) ∙ fits.powered
+
+rose_either : (a b c : ℕ) → a ≤ b → b ≤ c → (Rose a c → ⊥) → Rose b c → ⊥
+rose_either a b c ab bc still rose = still (omega (arith, ab, bc, rose))
+
+rose_first : (a b c : ℕ) → a ≤ b → b ≤ c → (Rose a c → ⊥) → Rose a b → ⊥
+rose_first a b c ab bc still rose = still (omega (arith, ab, bc, rose))
+
+not_true : (b : Bool) → (b ≡ true → ⊥) → b ≡ false
+not_true true f = absurd (f refl)
+not_true false f = refl
+
+or_parts : (a b : Bool) → (a || b) ≡ false → (a ≡ false) × (b ≡ false)
+or_parts true b e = absurd (cc)
+or_parts false b e = (refl, e)
+
+plan_is : (h : LineEffect) (line : ScriptLine) → line_of h ≡ line → is_plan h ≡ is_cut_line line
+plan_is (Did m) line is = by m.input is where
+  by : (e : Event) → line_for e ≡ line → false ≡ is_cut_line line
+  by (PoweredOn found) is = rw (← is) refl
+  by PoweredOff is = rw (← is) refl
+  by (Received bytes) is = rw (← is) refl
+plan_is (Planned write tear) line is = rw (← is) refl
+
+-- a plan leaves what a scene fits
+planned_fits : (old new : Scene) (opening : FullRecord) (moments : List PlainMoment) (write : ℕ) → new ≡ record old { device = planned_by write old.device } → Fits old opening moments → Fits new opening moments
+planned_fits old new opening moments write is fits = rw is (record {
+  powered = fits.powered;
+  sound = sound_life old.chip.life old.device (planned_by write old.device) old.cells (planned_power write old.device) fits.sound;
+  living = fits.living;
+  standing = fits.standing;
+})
 
 -- a line more, by what it made
-more : (h : Happening) (opening : FullRecord) (start old new : Scene) (log_0 log log_now : List Ask) (lines : List ScriptLine) (line : ScriptLine) (first before now : SinkSeen) → before.tells ≡ first.tells → slice_index old.cells 0 ≡ slice_index start.cells 0 → IsRunSoFar opening start old log_0 log lines first before → Made old new log log_now line h → (IsTrue before.tells → Grew before.written now.written (text_of h)) → IsRunSoFar opening start new log_0 log_now (lines ++ line ∷ []) first now
-more (Did m) opening start old new log_0 log log_now lines line first before now tells layout run made written =
-    let step = made.comes opening (journal run.happened) run.fits in
+more : (h : LineEffect) (opening : FullRecord) (start old new : Scene) (log_0 log log_now : List Ask) (lines : List ScriptLine) (line : ScriptLine) (first before now : SinkSeen) → before.tells ≡ first.tells → IsRunSoFar opening start old log_0 log lines first before
+    → IsLine old new log log_now line h → Keeps old new line → (IsTrue before.tells → Grew before.written now.written (text_of h)) → IsRunSoFar opening start new log_0 log_now (lines ++ line ∷ []) first now
+more (Did m) opening start old new log_0 log log_now lines line first before now tells run made keeps written =
+    let step = made.step opening (journal run.happened) run.fits in
+    let alive : is_some old.chip.life ≡ on (journal run.happened) = run.fits.powered in
+    let lost_is : was_cut (is_some old.chip.life) (Did m) ≡ lost m (journal run.happened) = rw alive refl in
+    let plain : is_cut_line line ≡ false = sym (plan_is (Did m) line made.carried) in
     record {
       happened = Did m ∷ run.happened;
       fits = step.1;
       legal = (step.0, run.legal);
-      steady = λ one. (run.steady one, made.steady (layout ∙ one));
+      steady = λ still. (
+        run.steady (rose_first start.device.cuts old.device.cuts new.device.cuts run.later keeps.later still),
+        sym lost_is ∙ not_true (was_cut (is_some old.chip.life) (Did m)) (λ cut. rose_either start.device.cuts old.device.cuts new.device.cuts run.later keeps.later still (made.cause cut)),
+      );
+      unplanned = λ told none unplanned.
+          let earlier = run.unplanned told none unplanned in
+          let told_now : IsTrue old.device.told = run.same_told ∙ told in
+          ((earlier.0, sym lost_is ∙ made.unplanned told_now earlier.1), keeps.unplanned told_now plain earlier.1);
+      later = omega (arith, run.later, keeps.later);
+      same_told = keeps.told ∙ run.same_told;
+      dark = λ off. keeps.dark (run.dark off);
       carried = rw (run.carried, made.carried) refl;
       logged = made.logged ∙ ap (λ (l : List Ask). l ++ m.asks) run.logged ∙ append_assoc log_0 (asked (journal run.happened)) m.asks;
       written = λ told. rw (written (rw tells told), run.written told) (append_assoc first.written (trace (journal run.happened)) (text m));
     }
-more (Planned write tear) opening start old new log_0 log log_now lines line first before now tells layout run made written = record {
+more (Planned write tear) opening start old new log_0 log log_now lines line first before now tells run made keeps written = record {
   happened = Planned write tear ∷ run.happened;
-  fits = made.comes opening (journal run.happened) run.fits;
+  fits = planned_fits old new opening (journal run.happened) write made.step run.fits;
   legal = run.legal;
-  steady = run.steady;
+  steady = λ still. run.steady (rose_first start.device.cuts old.device.cuts new.device.cuts run.later keeps.later still);
+  unplanned = λ told none unplanned. absurd (cc);
+  later = omega (arith, run.later, keeps.later);
+  same_told = keeps.told ∙ run.same_told;
+  dark = λ off. keeps.dark (run.dark off);
   carried = rw (run.carried, made.carried) refl;
   logged = made.logged ∙ append-nil log ∙ run.logged;
   written = λ told. written (rw tells told) ∙ append-nil before.written ∙ run.written told;
 }
 
-pub ran_more : (opening : FullRecord) (start old new : Scene) (log_0 log log_now : List Ask) (lines : List ScriptLine) (line : ScriptLine) (first before now : SinkSeen) → before.tells ≡ first.tells → slice_index old.cells 0 ≡ slice_index start.cells 0 → IsRunSoFar opening start old log_0 log lines first before → DidLine old new log log_now line before now → IsRunSoFar opening start new log_0 log_now (lines ++ line ∷ []) first now
-ran_more opening start old new log_0 log log_now lines line first before now tells layout run did = more did.happened opening start old new log_0 log log_now lines line first before now tells layout run did.made did.written
+pub ran_more : (opening : FullRecord) (start old new : Scene) (log_0 log log_now : List Ask) (lines : List ScriptLine) (line : ScriptLine) (first before now : SinkSeen) → before.tells ≡ first.tells → IsRunSoFar opening start old log_0 log lines first before
+    → DidLine old new log log_now line before now → Keeps old new line → IsRunSoFar opening start new log_0 log_now (lines ++ line ∷ []) first now
+ran_more opening start old new log_0 log log_now lines line first before now tells run did keeps = more did.happened opening start old new log_0 log log_now lines line first before now tells run did.made keeps did.written
 
 whole_front : (moments : List PlainMoment) → IsFrontOfTrace (trace moments) moments
 whole_front [] = refl
 whole_front (m ∷ before) = (text m, ([], append-nil (text m)), refl)
 
--- a line broke off
-pub broke_off : (opening : FullRecord) (start old new : Scene) (log_0 log log_now : List Ask) (lines : List ScriptLine) (line : ScriptLine) (rest whole : List ScriptLine) (first before now : SinkSeen) → lines ++ line ∷ rest ≡ whole → before.tells ≡ first.tells → slice_index old.cells 0 ≡ slice_index start.cells 0 → IsRunSoFar opening start old log_0 log lines first before → BrokeOffLine old new log log_now line before now → DidSomeLines opening whole start.cells log_0 log_now first now
-broke_off opening start old new log_0 log log_now lines line rest whole first before now parts tells layout run (inl same) = record {
-  happened = run.happened;
+-- what the lines did so far, seen from outside
+pub ran_lines : (opening : FullRecord) (chip chip_now : ChipView) (old new : Outside) (lines : List ScriptLine) (before now : SinkSeen) (run : IsRunSoFar opening (scene chip old.device old.cells) (scene chip_now new.device new.cells) old.copro.log new.copro.log lines before now)
+    → new.copro.told ≡ old.copro.told → slice_index new.cells 0 ≡ slice_index old.cells 0 → RanLines opening run.happened old new
+ran_lines opening chip chip_now old new lines before now run told layout = record {
   legal = run.legal;
   steady = run.steady;
-  carried = (line ∷ rest, rw run.carried parts);
-  logged = same.1 ∙ run.logged;
-  written = λ told. (trace (journal run.happened), whole_front (journal run.happened), same.2 (rw tells told) ∙ run.written told);
+  unplanned = λ is none unplanned. (run.unplanned is none unplanned).0;
+  only = λ source answered steady. only_journal source opening (journal run.happened) run.legal steady answered;
+  logged = run.logged;
+  told = told;
+  cells = run.fits.standing;
+  layout = layout;
+  power = λ off. powered_on (scene chip_now new.device new.cells) (journal run.happened) opening run.fits (run.dark off);
 }
-broke_off opening start old new log_0 log log_now lines line rest whole first before now parts tells layout run (inr part) =
-    let step = part.made.comes opening (journal run.happened) run.fits in
+
+-- a line broke off
+pub broke_off : (opening : FullRecord) (chip chip_was chip_now : ChipView) (old was new : Outside) (lines : List ScriptLine) (line : ScriptLine) (rest whole : List ScriptLine) → lines ++ line ∷ rest ≡ whole → was.sink.tells ≡ old.sink.tells → new.copro.told ≡ old.copro.told
+    → slice_index was.cells 0 ≡ slice_index old.cells 0 → IsRunSoFar opening (scene chip old.device old.cells) (scene chip_was was.device was.cells) old.copro.log was.copro.log lines old.sink was.sink
+    → BrokeOffLine (scene chip_was was.device was.cells) (scene chip_now new.device new.cells) was.copro.log new.copro.log line was.sink new.sink → Keeps (scene chip_was was.device was.cells) (scene chip_now new.device new.cells) line → DidSomeLines opening whole old new
+unfolding more
+broke_off opening chip chip_was chip_now old was new lines line rest whole parts tells told layout run (inl same) keeps =
+    let start = scene chip old.device old.cells in
+    let here = subst (λ (x : Scene). IsRunSoFar opening start x old.copro.log was.copro.log lines old.sink was.sink) (sym same.0) run in
+    let at = subst (λ (l : List Ask). IsRunSoFar opening start (scene chip_now new.device new.cells) old.copro.log l lines old.sink was.sink) (sym same.1) here in
     record {
-      happened = Did part.moment ∷ run.happened;
-      legal = (step.0, run.legal);
-      steady = λ one. (run.steady one, part.made.steady (layout ∙ one));
-      carried = (rest, rw (run.carried, part.made.carried) (append_assoc lines (line ∷ []) rest ∙ parts));
-      logged = part.made.logged ∙ ap (λ (l : List Ask). l ++ part.moment.asks) run.logged ∙ append_assoc log_0 (asked (journal run.happened)) part.moment.asks;
-      written = λ told.
-          let grew = part.written (rw tells told) in
-          (trace (journal run.happened) ++ grew.0, (grew.0, grew.1, refl), grew.2 ∙ ap (λ (w : List ℕ). w ++ grew.0) (run.written told) ∙ append_assoc first.written (trace (journal run.happened)) grew.0);
+      happened = at.happened;
+      ran = ran_lines opening chip chip_now old new lines old.sink was.sink at told (keeps.layout ∙ layout);
+      carried = (line ∷ rest, rw at.carried parts);
+      written = λ tells_so. (trace (journal at.happened), whole_front (journal at.happened), same.2 (rw tells tells_so) ∙ at.written tells_so);
+    }
+broke_off opening chip chip_was chip_now old was new lines line rest whole parts tells told layout run (inr part) keeps =
+    let at = more (Did part.moment) opening (scene chip old.device old.cells) (scene chip_was was.device was.cells) (scene chip_now new.device new.cells) old.copro.log was.copro.log new.copro.log lines line
+    (record old.sink { tells = false }) (record was.sink { tells = false }) (record new.sink { tells = false }) refl
+    (record { happened = run.happened; fits = run.fits; legal = run.legal; steady = run.steady; unplanned = run.unplanned; later = run.later; same_told = run.same_told; dark = run.dark; carried = run.carried; logged = run.logged; written = λ never. absurd (cc) })
+    part.made keeps (λ never. absurd (cc)) in
+    record {
+      happened = at.happened;
+      ran = ran_lines opening chip chip_now old new (lines ++ line ∷ []) (record old.sink { tells = false }) (record new.sink { tells = false }) at told (keeps.layout ∙ layout);
+      carried = (rest, rw at.carried (append_assoc lines (line ∷ []) rest ∙ parts));
+      written = λ tells_so.
+          let grew = part.written (rw tells tells_so) in
+          (trace (journal run.happened) ++ grew.0, (grew.0, grew.1, refl), grew.2 ∙ ap (λ (w : List ℕ). w ++ grew.0) (run.written tells_so) ∙ append_assoc old.sink.written (trace (journal run.happened)) grew.0);
     }
 
 -- one line more was taken
@@ -155,10 +421,8 @@ taken_apart lines i line within is =
     sym (append_assoc (map plain_line (take i lines)) (plain_line line ∷ []) (map plain_line (drop (i + 1) lines)))
     ∙ ap (λ (l : List ScriptLine). l ++ map plain_line (drop (i + 1) lines)) (sym (taken_more lines i line within is)) ∙ front
 
-pub ran_taken : (opening : FullRecord) (start old new : Scene) (log_0 log log_now : List Ask) (lines : List Line) (i : ℕ) (line : Line) (first before now : SinkSeen) → i < length lines → line ≡ get_or lines i line → before.tells ≡ first.tells → slice_index old.cells 0 ≡ slice_index start.cells 0 → IsRunSoFar opening start old log_0 log (map plain_line (take i lines)) first before → DidLine old new log log_now (plain_line line) before now → IsRunSoFar opening start new log_0 log_now (map plain_line (take (i + 1) lines)) first now
-ran_taken opening start old new log_0 log log_now lines i line first before now within is tells layout run did =
+pub ran_taken : (opening : FullRecord) (start old new : Scene) (log_0 log log_now : List Ask) (lines : List Line) (i : ℕ) (line : Line) (first before now : SinkSeen) → i < length lines → line ≡ get_or lines i line → before.tells ≡ first.tells
+    → IsRunSoFar opening start old log_0 log (map plain_line (take i lines)) first before → DidLine old new log log_now (plain_line line) before now → Keeps old new (plain_line line) → IsRunSoFar opening start new log_0 log_now (map plain_line (take (i + 1) lines)) first now
+ran_taken opening start old new log_0 log log_now lines i line first before now within is tells run did keeps =
     subst (λ (l : List ScriptLine). IsRunSoFar opening start new log_0 log_now l first now) (sym (taken_more lines i line within is))
-    (ran_more opening start old new log_0 log log_now (map plain_line (take i lines)) (plain_line line) first before now tells layout run did)
-
-pub new_sound : (chip : Chip) (device : Device) (cells : List ℕ) → chip.life ≡ None → IsSound chip device cells
-new_sound chip device cells off = subst (λ (l : Option Running). IsSoundLife l device cells) (sym off) tt
+    (ran_more opening start old new log_0 log log_now (map plain_line (take i lines)) (plain_line line) first before now tells run did keeps)

@@ -1,22 +1,25 @@
 -- What a run of a script does: the moments that its lines make, and what is written of them.
-use Rattle.std.specs.Prelude.{◌≡◌, ◌⊎◌, ℕ, Bool, true, IsTrue, List, [], ◌∷◌, ◌++◌, Some, slice_index}
+use Rattle.std.specs.Prelude.{◌≡◌, ◌⊎◌, ℕ, ◌≤◌, ◌&&◌, ◌||◌, Bool, true, false, IsTrue, List, [], ◌∷◌, ◌++◌, ◌==◌, is_some, is_none, slice_index, if◌then◌else◌}
+use Rattle.eid_base.specs.Faults.{Rose}
 use Rattle.eid_base.specs.Seen.{SinkSeen, IsFront, Grew, GrewByPart}
 use Rattle.eid_cells.specs.declared.tear.Tear.{Tear}
-use Rattle.eid_cells.specs.Device.{Device}
+use Rattle.eid_cells.specs.Device.{Device, planned_at}
 use Rattle.eid_record.specs.Plain.{FullRecord}
 use Rattle.eid_store.specs.Stands.{stands}
+use Rattle.eid_copro.specs.Seen.{CoproSeen}
+use Rattle.eid_copro.specs.Told.{Source, AnswersFrom}
 use Rattle.eid_copro.specs.declared.ask.Ask.{Ask}
-use Rattle.eid_model.specs.Moments.{Event, PoweredOn, PoweredOff, Received, PlainMoment, asked, is_steady, AreSteady}
-use Rattle.eid_model.specs.Legal.{AreLegal, kept}
+use Rattle.eid_model.specs.Moments.{Event, PoweredOn, PoweredOff, Received, PlainMoment, on, asked, is_lost, AreSteady}
+use Rattle.eid_model.specs.Legal.{AreLegal, IsOnlyJournal}
+use Rattle.eid_model.specs.Ledger.{kept, pending, MayHold}
 use Rattle.eid_model.specs.Trace.{text, trace}
-use Rattle.eid_chip.specs.declared.chip.Chip.{Chip}
-use Rattle.eid_chip.specs.Fits.{Fits, Follows, IsSound}
+use Rattle.eid_chip.specs.Fits.{Scene, Fits, Follows, IsSound, is_off}
 use Rattle.eid_script.specs.Scripts.{ScriptLine, OnLine, OffLine, ApduLine, CutLine}
 
 -- What a line made: a moment, or the plan of a cut.
-pub data Happening : Type 0 where
-  Did : PlainMoment → Happening
-  Planned : ℕ → Tear → Happening
+pub data LineEffect : Type 0 where
+  Did : PlainMoment → LineEffect
+  Planned : ℕ → Tear → LineEffect
 
 -- the line that asks for what came
 abbrev pub line_for : Event → ScriptLine
@@ -24,72 +27,88 @@ line_for (PoweredOn found) = OnLine
 line_for PoweredOff = OffLine
 line_for (Received bytes) = ApduLine bytes
 
-abbrev pub line_of : Happening → ScriptLine
+abbrev pub line_of : LineEffect → ScriptLine
 line_of (Did m) = line_for m.input
 line_of (Planned write tear) = CutLine write tear
 
 -- the lines that were carried out, the first one first; what happened has the newest first
-abbrev pub lines_of : List Happening → List ScriptLine
+abbrev pub lines_of : List LineEffect → List ScriptLine
 lines_of [] = []
 lines_of (h ∷ before) = lines_of before ++ line_of h ∷ []
 
 -- the moments alone
-abbrev pub journal : List Happening → List PlainMoment
+abbrev pub journal : List LineEffect → List PlainMoment
 journal [] = []
 journal (Did m ∷ before) = m ∷ journal before
 journal (Planned write tear ∷ before) = journal before
 
+abbrev pub is_cut_line : ScriptLine → Bool
+is_cut_line OnLine = false
+is_cut_line OffLine = false
+is_cut_line (ApduLine bytes) = false
+is_cut_line (CutLine write tear) = true
+
+-- some line planned a cut
+abbrev pub is_plan : LineEffect → Bool
+is_plan (Did m) = false
+is_plan (Planned write tear) = true
+
+abbrev pub has_plan : List LineEffect → Bool
+has_plan [] = false
+has_plan (h ∷ before) = is_plan h || has_plan before
+
 -- the questions that the coprocessor was asked, with their answers
-abbrev pub asks_of : Happening → List Ask
+abbrev pub asks_of : LineEffect → List Ask
 asks_of (Did m) = m.asks
 asks_of (Planned write tear) = []
 
-abbrev pub text_of : Happening → List ℕ
+abbrev pub text_of : LineEffect → List ℕ
 text_of (Did m) = text m
 text_of (Planned write tear) = []
 
--- a plan loses no power
-abbrev pub keeps_steady : Happening → Bool
-keeps_steady (Did m) = is_steady m.input
-keeps_steady (Planned write tear) = true
+-- the power was cut in this line, where the chip was on before it, or off
+abbrev pub was_cut : Bool → LineEffect → Bool
+was_cut powered (Did m) = is_lost m.input (is_none m.answer && powered)
+was_cut powered (Planned write tear) = false
 
--- A chip, its device, and the device's cells.
-pub record Scene : Type 0 where
-  pub chip : Chip
-  pub device : Device
-  pub cells : List ℕ
+-- a plan replaces the one before; there is no write of the number 0, so nothing is planned for it
+abbrev pub planned_by : ℕ → Device → Device
+planned_by write device = if write == 0 then device else planned_at write device
 
-abbrev pub FitsScene : Scene → FullRecord → List PlainMoment → Type 0
-FitsScene s opening moments = Fits s.chip s.device s.cells opening moments
+-- from one scene to another by what happened; a plan changes the device's plan alone
+abbrev pub IsStep : Scene → Scene → LineEffect → Type 0
+IsStep old new (Did m) = Follows old new m
+IsStep old new (Planned write tear) = new ≡ record old { device = planned_by write old.device }
 
--- from one scene to another by what happened
-abbrev pub Comes : Scene → Scene → Happening → Type 0
-Comes old new (Did m) = Follows old.chip old.device old.cells new.chip new.device new.cells m
-Comes old new (Planned write tear) = (opening : FullRecord) (moments : List PlainMoment) → FitsScene old opening moments → FitsScene new opening moments
-
--- what every line leaves: where the chip is on its store fits, and the cells stand for the same record
-pub record GoesOn (old new : Scene) : Type 0 where
-  pub sound : IsSound new.chip new.device new.cells
-  pub stands : stands new.cells ≡ stands old.cells
-  pub layout : slice_index new.cells 0 ≡ slice_index old.cells 0
-
--- a line was carried out, and the coprocessor's log grew by its questions
-pub record Made (old new : Scene) (log log_now : List Ask) (line : ScriptLine) (h : Happening) : Type 0 where
-  pub comes : Comes old new h
+-- A line was carried out, and the coprocessor's log grew by its questions. The power was cut in it only where the
+-- device's count of cuts rose, and never where the device tells that no cut is planned.
+pub record IsLine (old new : Scene) (log log_now : List Ask) (line : ScriptLine) (h : LineEffect) : Type 0 where
+  pub step : IsStep old new h
   pub logged : log_now ≡ log ++ asks_of h
   pub carried : line_of h ≡ line
-  pub steady : slice_index old.cells 0 ≡ 1 → keeps_steady h ≡ true
+  pub cause : was_cut (is_some old.chip.life) h ≡ true → Rose old.device.cuts new.device.cuts
+  pub unplanned : IsTrue old.device.told → old.device.planned ≡ 0 → was_cut (is_some old.chip.life) h ≡ false
+
+-- what every line leaves: where the chip is on its store fits, and where it is off the device has no power, if that was so
+-- before; the cell that names the layout is as before; cuts are counted; without a plan none comes up but by a line
+pub record Keeps (old new : Scene) (line : ScriptLine) : Type 0 where
+  pub sound : IsSound new
+  pub dark : (is_off old.chip ≡ true → old.device.has_power ≡ false) → is_off new.chip ≡ true → new.device.has_power ≡ false
+  pub layout : slice_index new.cells 0 ≡ slice_index old.cells 0
+  pub told : new.device.told ≡ old.device.told
+  pub later : old.device.cuts ≤ new.device.cuts
+  pub unplanned : IsTrue old.device.told → is_cut_line line ≡ false → old.device.planned ≡ 0 → new.device.planned ≡ 0
 
 -- and its text was written whole
 pub record DidLine (old new : Scene) (log log_now : List Ask) (line : ScriptLine) (before now : SinkSeen) : Type 0 where
-  pub happened : Happening
-  pub made : Made old new log log_now line happened
+  pub happened : LineEffect
+  pub made : IsLine old new log log_now line happened
   pub written : IsTrue before.tells → Grew before.written now.written (text_of happened)
 
 -- a line broke off: it did not happen, or only a front of its text was written
 pub record PartOfLine (old new : Scene) (log log_now : List Ask) (line : ScriptLine) (before now : SinkSeen) : Type 0 where
   pub moment : PlainMoment
-  pub made : Made old new log log_now line (Did moment)
+  pub made : IsLine old new log log_now line (Did moment)
   pub written : IsTrue before.tells → GrewByPart before.written now.written (text moment)
 
 abbrev pub BrokeOffLine : Scene → Scene → List Ask → List Ask → ScriptLine → SinkSeen → SinkSeen → Type 0
@@ -101,36 +120,54 @@ abbrev pub IsFrontOfTrace : List ℕ → List PlainMoment → Type 0
 IsFrontOfTrace written [] = written ≡ []
 IsFrontOfTrace written (m ∷ before) = (front : List ℕ) × IsFront front (text m) × (written ≡ trace before ++ front)
 
--- the lines so far were carried out, and the scene fits their journal
-pub record IsRunSoFar (opening : FullRecord) (start now_at : Scene) (log log_now : List Ask) (lines : List ScriptLine) (before now : SinkSeen) : Type 0 where
-  pub happened : List Happening
-  pub fits : FitsScene now_at opening (journal happened)
-  pub legal : AreLegal opening (journal happened)
-  pub steady : slice_index start.cells 0 ≡ 1 → AreSteady (journal happened)
-  pub carried : lines_of happened ≡ lines
-  pub logged : log_now ≡ log ++ asked (journal happened)
-  pub written : IsTrue before.tells → Grew before.written now.written (trace (journal happened))
+-- What a run finds outside of the chip, and leaves there: the device, its cells, the coprocessor, and the sink.
+pub record Outside : Type 0 where
+  pub device : Device
+  pub cells : List ℕ
+  pub copro : CoproSeen
+  pub sink : SinkSeen
 
--- all lines were carried out, over cells that stood for this record
-pub record DidLines (opening : FullRecord) (lines : List ScriptLine) (old_cells new_cells : List ℕ) (log log_now : List Ask) (before now : SinkSeen) : Type 0 where
-  pub happened : List Happening
+abbrev pub outside : Device → List ℕ → CoproSeen → SinkSeen → Outside
+outside device cells copro sink = record { device = device; cells = cells; copro = copro; sink = sink }
+
+-- What a run of lines did, whose moments are this journal: it is legal; no power was cut but where the device's count of
+-- cuts rose, and none where the device told that no cut was planned and no line planned one; the coprocessor's log grew by
+-- the questions of the moments; the cells hold what the journal says; and the device has power exactly where the chip has.
+pub record RanLines (opening : FullRecord) (happened : List LineEffect) (old new : Outside) : Type 0 where
   pub legal : AreLegal opening (journal happened)
-  -- cells of layout 1 are mounted without a write, so no power is lost
-  pub steady : slice_index old_cells 0 ≡ 1 → AreSteady (journal happened)
+  pub steady : (Rose old.device.cuts new.device.cuts → ⊥) → AreSteady (journal happened)
+  pub unplanned : IsTrue old.device.told → old.device.planned ≡ 0 → has_plan happened ≡ false → AreSteady (journal happened)
+  pub only : (source : Source) → AnswersFrom source (asked (journal happened)) → AreSteady (journal happened) → IsOnlyJournal source opening (journal happened)
+  pub logged : new.copro.log ≡ old.copro.log ++ asked (journal happened)
+  pub told : new.copro.told ≡ old.copro.told
+  pub cells : MayHold (pending opening (journal happened)) (kept opening (journal happened)) (stands new.cells)
+  pub layout : slice_index new.cells 0 ≡ slice_index old.cells 0
+  pub power : old.device.has_power ≡ false → new.device.has_power ≡ on (journal happened)
+
+-- all lines were carried out, and the trace was written
+pub record DidLines (opening : FullRecord) (lines : List ScriptLine) (old new : Outside) : Type 0 where
+  pub happened : List LineEffect
+  pub ran : RanLines opening happened old new
   pub carried : lines_of happened ≡ lines
-  -- the coprocessor's log grew by the questions of the moments
-  pub logged : log_now ≡ log ++ asked (journal happened)
-  pub cells : stands new_cells ≡ Some (kept opening (journal happened))
-  pub written : IsTrue before.tells → Grew before.written now.written (trace (journal happened))
+  pub written : IsTrue old.sink.tells → Grew old.sink.written new.sink.written (trace (journal happened))
 
 -- the lines broke off: a front of them was carried out, and a front of the trace written
-pub record DidSomeLines (opening : FullRecord) (lines : List ScriptLine) (old_cells : List ℕ) (log log_now : List Ask) (before now : SinkSeen) : Type 0 where
-  pub happened : List Happening
-  pub legal : AreLegal opening (journal happened)
-  pub steady : slice_index old_cells 0 ≡ 1 → AreSteady (journal happened)
+pub record DidSomeLines (opening : FullRecord) (lines : List ScriptLine) (old new : Outside) : Type 0 where
+  pub happened : List LineEffect
+  pub ran : RanLines opening happened old new
   pub carried : (rest : List ScriptLine) × (lines_of happened ++ rest ≡ lines)
-  pub logged : log_now ≡ log ++ asked (journal happened)
-  pub written : IsTrue before.tells → (part : List ℕ) × IsFrontOfTrace part (journal happened) × (now.written ≡ before.written ++ part)
+  pub written : IsTrue old.sink.tells → (part : List ℕ) × IsFrontOfTrace part (journal happened) × (new.sink.written ≡ old.sink.written ++ part)
 
-abbrev pub scene : Chip → Device → List ℕ → Scene
-scene chip device cells = record { chip = chip; device = device; cells = cells }
+-- the lines so far were carried out, and the scene fits their journal
+pub record IsRunSoFar (opening : FullRecord) (start now_at : Scene) (log log_now : List Ask) (lines : List ScriptLine) (before now : SinkSeen) : Type 0 where
+  pub happened : List LineEffect
+  pub fits : Fits now_at opening (journal happened)
+  pub legal : AreLegal opening (journal happened)
+  pub steady : (Rose start.device.cuts now_at.device.cuts → ⊥) → AreSteady (journal happened)
+  pub unplanned : IsTrue start.device.told → start.device.planned ≡ 0 → has_plan happened ≡ false → AreSteady (journal happened) × (now_at.device.planned ≡ 0)
+  pub later : start.device.cuts ≤ now_at.device.cuts
+  pub same_told : now_at.device.told ≡ start.device.told
+  pub dark : start.device.has_power ≡ false → is_off now_at.chip ≡ true → now_at.device.has_power ≡ false
+  pub carried : lines_of happened ≡ lines
+  pub logged : log_now ≡ log ++ asked (journal happened)
+  pub written : IsTrue before.tells → Grew before.written now.written (trace (journal happened))

@@ -1,6 +1,5 @@
 //! Running the lines of a script.
-ghost use Rattle.std.specs.Prelude.{◌≡◌, ◌≤◌, List, drop, length, Some, IsSome, IsTrue, OnOk, OnErr, IsErrOf, map, option_map, slice_index};
-ghost use Rattle.eid_base.specs.Faults.{Rose};
+ghost use Rattle.std.specs.Prelude.{◌≡◌, ◌≤◌, List, drop, length, Some, IsSome, IsTrue, OnOk, OnErr, map, option_map};
 ghost use Rattle.eid_base.specs.Seen.{Grew, GrewByPart};
 ghost use Rattle.eid_record.specs.Plain.{FullRecord};
 ghost use Rattle.eid_copro.specs.declared.ask.Ask.{Ask as LogAsk};
@@ -10,9 +9,10 @@ ghost use Rattle.eid_model.specs.Trace as trace;
 ghost use Rattle.eid_model.specs.View as view;
 ghost use Rattle.eid_apdu.specs.Command.{plain_command};
 ghost use Rattle.eid_sm.specs.Plain.{plain_of};
-ghost use Rattle.eid_chip.specs.Fits.{IsSound, found, handled_in};
+ghost use Rattle.eid_chip.specs.Fits.{IsSound, scene, found, came_in, moment_of};
 ghost use Rattle.eid_script.specs.Scripts.{plain_line, OnLine, OffLine, ApduLine, CutLine};
-ghost use Rattle.eid_run.specs.Runs.{scene, Did, Planned, GoesOn, Made, DidLine, BrokeOffLine, DidLines, DidSomeLines};
+ghost use Rattle.eid_run.specs.Runs.{outside, Did, Planned, Keeps, IsLine, DidLine, BrokeOffLine, DidLines, DidSomeLines};
+ghost use Rattle.eid_run.specs.Sinks.{TellsFault};
 
 use eid_apdu::Command;
 use eid_base::{IoError, Rule, RunError, Sink};
@@ -30,11 +30,11 @@ const QUESTIONS: usize = 2;
 
 /// Writes the text of a moment.
 fn tell<K: Sink>(m: &MomentRef<'_>, text: &mut Text, out: &mut K) -> Result<(), RunError>
-    ensures tells { (K.seen out.new).tells ≡ (K.seen out.old).tells }
-    ensures whole { OnOk result (IsTrue (K.seen out.old).tells → Grew (K.seen out.old).written (K.seen out.new).written (trace.text (view.moment_ref m.now))) }
-    ensures part { OnErr result (IsTrue (K.seen out.old).tells → GrewByPart (K.seen out.old).written (K.seen out.new).written (trace.text (view.moment_ref m.now))) }
-    ensures later { (K.seen out.old).faults ≤ (K.seen out.new).faults }
-    ensures fault { IsErrOf result RunError.SinkFault → Rose (K.seen out.old).faults (K.seen out.new).faults }
+    ensures whole { OnOk result (IsTrue (K.seen out.old).tells
+        → Grew (K.seen out.old).written (K.seen out.new).written (trace.text (view.moment_ref m.now))) }
+    ensures part { OnErr result (IsTrue (K.seen out.old).tells
+        → GrewByPart (K.seen out.old).written (K.seen out.new).written (trace.text (view.moment_ref m.now))) }
+    ensures sink { TellsFault (K.seen out.old) (K.seen out.new) result }
 {
     text.clear();
     if text.put_moment(m).is_err() {
@@ -72,14 +72,14 @@ fn with_body<'a>(plain: Option<Header>, body: &'a [u8]) -> Option<Command<'a>>
     }
 }
 
-/// The moment of bytes that were handled so, with these questions and this exchange.
+/// The moment of bytes of which this came, with these questions and this exchange.
 fn moment_of<'a>(
     bytes: &'a [u8],
     asks: &'a [Ask],
     came: HandledIn,
     exchange: &'a Exchange,
 ) -> MomentRef<'a>
-    ensures { view.moment_ref result ≡ handled_in bytes.now asks.now came exchange.now }
+    ensures { view.moment_ref result ≡ moment_of bytes.now asks.now (came_in exchange.now came) }
 {
     match came {
         HandledIn::Silent => silent(InputRef::Apdu(bytes)),
@@ -95,6 +95,15 @@ fn moment_of<'a>(
             rule,
             answer: Some(&exchange.answer),
             sent: Some(exchange.sent.as_slice()),
+        },
+        HandledIn::Lost { plain, finished } => MomentRef {
+            input: InputRef::Apdu(bytes),
+            plain: with_body(plain, exchange.body.as_slice()),
+            asks,
+            finished,
+            rule: Rule(0),
+            answer: None,
+            sent: None,
         },
     }
 }
@@ -112,8 +121,10 @@ fn number_found(mounted: Result<u32, MountError>) -> Option<u32>
 /// Gives the chip power.
 fn power_on<'a, E: Eeprom>(chip: &mut Chip, cells: &mut E) -> InputRef<'a>
     requires { IsSome (stands (E.cells cells.old)) }
-    ensures made { (log : List LogAsk) → Made (scene chip.old (E.device cells.old) (E.cells cells.old)) (scene chip.new (E.device cells.new) (E.cells cells.new)) log log OnLine (Did (model.silent (view.event_ref result))) }
-    ensures goes_on { GoesOn (scene chip.old (E.device cells.old) (E.cells cells.old)) (scene chip.new (E.device cells.new) (E.cells cells.new)) }
+    ensures made { (log : List LogAsk) → IsLine (scene chip.old (E.device cells.old) (E.cells cells.old))
+        (scene chip.new (E.device cells.new) (E.cells cells.new)) log log OnLine (Did (model.silent (view.event_ref result))) }
+    ensures keeps { Keeps (scene chip.old (E.device cells.old) (E.cells cells.old))
+        (scene chip.new (E.device cells.new) (E.cells cells.new)) OnLine }
 {
     let found = number_found(chip.power_on(cells));
     InputRef::On { found }
@@ -121,8 +132,10 @@ fn power_on<'a, E: Eeprom>(chip: &mut Chip, cells: &mut E) -> InputRef<'a>
 
 /// Takes power away from the chip.
 fn power_off<'a, E: Eeprom>(chip: &mut Chip, cells: &mut E) -> InputRef<'a>
-    ensures made { (log : List LogAsk) → Made (scene chip.old (E.device cells.old) (E.cells cells.old)) (scene chip.new (E.device cells.new) (E.cells cells.new)) log log OffLine (Did (model.silent (view.event_ref result))) }
-    ensures goes_on { GoesOn (scene chip.old (E.device cells.old) (E.cells cells.old)) (scene chip.new (E.device cells.new) (E.cells cells.new)) }
+    ensures made { (log : List LogAsk) → IsLine (scene chip.old (E.device cells.old) (E.cells cells.old))
+        (scene chip.new (E.device cells.new) (E.cells cells.new)) log log OffLine (Did (model.silent (view.event_ref result))) }
+    ensures keeps { Keeps (scene chip.old (E.device cells.old) (E.cells cells.old))
+        (scene chip.new (E.device cells.new) (E.cells cells.new)) OffLine }
 {
     chip.power_off(cells);
     InputRef::Off
@@ -130,8 +143,8 @@ fn power_off<'a, E: Eeprom>(chip: &mut Chip, cells: &mut E) -> InputRef<'a>
 
 /// The questions that were put since the log had so many.
 fn asks_since<C: Coprocessor>(copro: &C, before: usize) -> &[Ask]
-    requires { before ≤ length (C.log copro.now) }
-    ensures { result.now ≡ drop before (C.log copro.now) }
+    requires { before ≤ length (C.seen copro.now).log }
+    ensures { result.now ≡ drop before (C.seen copro.now).log }
 {
     &copro.log()[before..]
 }
@@ -146,14 +159,17 @@ fn hand_over<E: Eeprom, C: Coprocessor, K: Sink>(
     text: &mut Text,
     out: &mut K,
 ) -> Result<(), RunError>
-    requires { IsSound chip.old (E.device cells.old) (E.cells cells.old) }
-    ensures did { OnOk result (DidLine (scene chip.old (E.device cells.old) (E.cells cells.old)) (scene chip.new (E.device cells.new) (E.cells cells.new)) (C.log copro.old) (C.log copro.new) (ApduLine bytes.now) (K.seen out.old) (K.seen out.new)) }
-    ensures broke { OnErr result (BrokeOffLine (scene chip.old (E.device cells.old) (E.cells cells.old)) (scene chip.new (E.device cells.new) (E.cells cells.new)) (C.log copro.old) (C.log copro.new) (ApduLine bytes.now) (K.seen out.old) (K.seen out.new)) }
-    ensures goes_on { GoesOn (scene chip.old (E.device cells.old) (E.cells cells.old)) (scene chip.new (E.device cells.new) (E.cells cells.new)) }
-    ensures told { C.told copro.new ≡ C.told copro.old }
-    ensures tells { (K.seen out.new).tells ≡ (K.seen out.old).tells }
-    ensures later { (K.seen out.old).faults ≤ (K.seen out.new).faults }
-    ensures fault { IsErrOf result RunError.SinkFault → Rose (K.seen out.old).faults (K.seen out.new).faults }
+    requires { IsSound (scene chip.old (E.device cells.old) (E.cells cells.old)) }
+    ensures did { OnOk result (DidLine (scene chip.old (E.device cells.old) (E.cells cells.old))
+        (scene chip.new (E.device cells.new) (E.cells cells.new))
+        (C.seen copro.old).log (C.seen copro.new).log (ApduLine bytes.now) (K.seen out.old) (K.seen out.new)) }
+    ensures broke { OnErr result (BrokeOffLine (scene chip.old (E.device cells.old) (E.cells cells.old))
+        (scene chip.new (E.device cells.new) (E.cells cells.new))
+        (C.seen copro.old).log (C.seen copro.new).log (ApduLine bytes.now) (K.seen out.old) (K.seen out.new)) }
+    ensures keeps { Keeps (scene chip.old (E.device cells.old) (E.cells cells.old))
+        (scene chip.new (E.device cells.new) (E.cells cells.new)) (ApduLine bytes.now) }
+    ensures told { (C.seen copro.new).told ≡ (C.seen copro.old).told }
+    ensures sink { TellsFault (K.seen out.old) (K.seen out.new) result }
 {
     if copro.make_room(QUESTIONS).is_err() {
         return Err(RunError::NoMemory);
@@ -164,12 +180,15 @@ fn hand_over<E: Eeprom, C: Coprocessor, K: Sink>(
     tell(&moment_of(bytes, asks, came, exchange), text, out)
 }
 
-/// Plans a cut of the device's power.
+/// Plans a cut of the device's power. There is no write of the number 0, so nothing is planned for it.
 fn plan<E: Eeprom>(chip: &Chip, write: u32, tear: Tear, cells: &mut E)
-    requires { IsSound chip.now (E.device cells.old) (E.cells cells.old) }
-    ensures made { (log : List LogAsk) → Made (scene chip.now (E.device cells.old) (E.cells cells.old)) (scene chip.now (E.device cells.new) (E.cells cells.new)) log log (CutLine write tear) (Planned write tear) }
-    ensures goes_on { GoesOn (scene chip.now (E.device cells.old) (E.cells cells.old)) (scene chip.now (E.device cells.new) (E.cells cells.new)) }
+    requires { IsSound (scene chip.now (E.device cells.old) (E.cells cells.old)) }
+    ensures made { (log : List LogAsk) → IsLine (scene chip.now (E.device cells.old) (E.cells cells.old))
+        (scene chip.now (E.device cells.new) (E.cells cells.new)) log log (CutLine write tear) (Planned write tear) }
+    ensures keeps { Keeps (scene chip.now (E.device cells.old) (E.cells cells.old))
+        (scene chip.now (E.device cells.new) (E.cells cells.new)) (CutLine write tear) }
 {
+    // It is here for the contract alone.
     let _ = chip;
     if write > 0 {
         cells.plan_cut(write, tear);
@@ -186,15 +205,18 @@ fn run_line<E: Eeprom, C: Coprocessor, K: Sink>(
     text: &mut Text,
     out: &mut K,
 ) -> Result<(), RunError>
-    requires sound { IsSound chip.old (E.device cells.old) (E.cells cells.old) }
+    requires sound { IsSound (scene chip.old (E.device cells.old) (E.cells cells.old)) }
     requires stands { IsSome (stands (E.cells cells.old)) }
-    ensures did { OnOk result (DidLine (scene chip.old (E.device cells.old) (E.cells cells.old)) (scene chip.new (E.device cells.new) (E.cells cells.new)) (C.log copro.old) (C.log copro.new) (plain_line line.now) (K.seen out.old) (K.seen out.new)) }
-    ensures broke { OnErr result (BrokeOffLine (scene chip.old (E.device cells.old) (E.cells cells.old)) (scene chip.new (E.device cells.new) (E.cells cells.new)) (C.log copro.old) (C.log copro.new) (plain_line line.now) (K.seen out.old) (K.seen out.new)) }
-    ensures goes_on { GoesOn (scene chip.old (E.device cells.old) (E.cells cells.old)) (scene chip.new (E.device cells.new) (E.cells cells.new)) }
-    ensures told { C.told copro.new ≡ C.told copro.old }
-    ensures tells { (K.seen out.new).tells ≡ (K.seen out.old).tells }
-    ensures later { (K.seen out.old).faults ≤ (K.seen out.new).faults }
-    ensures fault { IsErrOf result RunError.SinkFault → Rose (K.seen out.old).faults (K.seen out.new).faults }
+    ensures did { OnOk result (DidLine (scene chip.old (E.device cells.old) (E.cells cells.old))
+        (scene chip.new (E.device cells.new) (E.cells cells.new))
+        (C.seen copro.old).log (C.seen copro.new).log (plain_line line.now) (K.seen out.old) (K.seen out.new)) }
+    ensures broke { OnErr result (BrokeOffLine (scene chip.old (E.device cells.old) (E.cells cells.old))
+        (scene chip.new (E.device cells.new) (E.cells cells.new))
+        (C.seen copro.old).log (C.seen copro.new).log (plain_line line.now) (K.seen out.old) (K.seen out.new)) }
+    ensures keeps { Keeps (scene chip.old (E.device cells.old) (E.cells cells.old))
+        (scene chip.new (E.device cells.new) (E.cells cells.new)) (plain_line line.now) }
+    ensures told { (C.seen copro.new).told ≡ (C.seen copro.old).told }
+    ensures sink { TellsFault (K.seen out.old) (K.seen out.new) result }
 {
     match line {
         Line::On => tell(&silent(power_on(chip, cells)), text, out),
@@ -222,13 +244,15 @@ pub fn run_script<E: Eeprom, C: Coprocessor, K: Sink>(
     out: &mut K,
 ) -> Result<(), RunError>
     requires { IsSome (stands (E.cells cells.old)) }
-    ensures did { OnOk result ((opening : FullRecord) → stands (E.cells cells.old) ≡ Some opening → DidLines opening (map plain_line lines.now) (E.cells cells.old) (E.cells cells.new) (C.log copro.old) (C.log copro.new) (K.seen out.old) (K.seen out.new)) }
-    ensures broke { OnErr result ((opening : FullRecord) → stands (E.cells cells.old) ≡ Some opening → DidSomeLines opening (map plain_line lines.now) (E.cells cells.old) (C.log copro.old) (C.log copro.new) (K.seen out.old) (K.seen out.new)) }
-    ensures layout { slice_index (E.cells cells.new) 0 ≡ slice_index (E.cells cells.old) 0 }
-    ensures told { C.told copro.new ≡ C.told copro.old }
-    ensures tells { (K.seen out.new).tells ≡ (K.seen out.old).tells }
-    ensures later { (K.seen out.old).faults ≤ (K.seen out.new).faults }
-    ensures fault { IsErrOf result RunError.SinkFault → Rose (K.seen out.old).faults (K.seen out.new).faults }
+    ensures did { OnOk result ((opening : FullRecord) → stands (E.cells cells.old) ≡ Some opening
+        → DidLines opening (map plain_line lines.now)
+        (outside (E.device cells.old) (E.cells cells.old) (C.seen copro.old) (K.seen out.old))
+        (outside (E.device cells.new) (E.cells cells.new) (C.seen copro.new) (K.seen out.new))) }
+    ensures broke { OnErr result ((opening : FullRecord) → stands (E.cells cells.old) ≡ Some opening
+        → DidSomeLines opening (map plain_line lines.now)
+        (outside (E.device cells.old) (E.cells cells.old) (C.seen copro.old) (K.seen out.old))
+        (outside (E.device cells.new) (E.cells cells.new) (C.seen copro.new) (K.seen out.new))) }
+    ensures sink { TellsFault (K.seen out.old) (K.seen out.new) result }
 {
     let mut chip = Chip::new();
     let mut exchange = Exchange::new();

@@ -10,7 +10,7 @@ use Rattle.eid_apdu.specs.Answer.{status_bytes}
 use Rattle.eid_apdu.specs.Command.{PlainCommand, Case, Bare, ShortLe, ShortBody, ShortBodyLe, ExtendedLe, ExtendedBody, ExtendedBodyLe, tail, short_le, extended_le, two_bytes}
 use Rattle.eid_apdu.specs.Writing.{case_written, written}
 use Rattle.eid_tlv.specs.Objects.{object, tag_bytes, length_bytes}
-use Rattle.eid_sm.specs.Parts.{cryptogram, encrypted_object, padded_objects, code_object, with_code}
+use Rattle.eid_sm.specs.Parts.{cryptogram, encrypted_object, padded_objects, mac_object, with_mac}
 use Rattle.eid_sm.specs.Replies.{reply_objects}
 use Rattle.eid_sm.proofs.PartFacts.{object_fits, status_object_is}
 
@@ -21,7 +21,7 @@ length-cipher key block = refl
 front_of_cipher : (key block : List ℕ) → length (take 8 (cipher key block)) ≡ 8
 front_of_cipher key block = length-take-le 8 (cipher key block) (omega (arith, length-cipher key block))
 
--- the code has 8 bytes
+-- a MAC has 8 bytes
 pub length-mac8 : (key message : List ℕ) → length (mac8 key message) ≡ 8
 unfolding cmac
 length-mac8 key message = front_of_cipher key _
@@ -31,14 +31,14 @@ small_object : (value : List ℕ) → length value ≡ 8 → object 0x8E value �
 unfolding object tag_bytes length_bytes
 small_object value size = rw size refl
 
-pub code_object_is : (key start objects : List ℕ) → code_object key start objects ≡ 0x8E ∷ 8 ∷ mac8 key (start ++ padded_objects objects)
-unfolding code_object
-code_object_is key start objects = small_object _ (length-mac8 key _)
+pub mac_object_is : (key start objects : List ℕ) → mac_object key start objects ≡ 0x8E ∷ 8 ∷ mac8 key (start ++ padded_objects objects)
+unfolding mac_object
+mac_object_is key start objects = small_object _ (length-mac8 key _)
 
-pub length-code_object : (key start objects : List ℕ) → length (code_object key start objects) ≡ 10
-length-code_object key start objects =
+pub length-mac_object : (key start objects : List ℕ) → length (mac_object key start objects) ≡ 10
+length-mac_object key start objects =
     let code : length (mac8 key (start ++ padded_objects objects)) ≡ 8 = length-mac8 key _ in
-    ap length (code_object_is key start objects) ∙ omega arith
+    ap length (mac_object_is key start objects) ∙ omega arith
 
 length-encrypted_blocks : (n : ℕ) (key iv bytes : List ℕ) → length (concat (encrypted_blocks key iv (blocks n bytes))) ≡ 16 * n
 unfolding encrypted_blocks blocks
@@ -71,16 +71,16 @@ length-encrypted_object key count (b ∷ bs) =
     let size : length (0x01 ∷ cryptogram key count (b ∷ bs)) ≡ suc (length (padded (b ∷ bs))) = ap suc (length-cryptogram key count (b ∷ bs)) in
     omega (arith, object_fits 0x87 (0x01 ∷ cryptogram key count (b ∷ bs)), some.2)
 
--- the objects of a reply with at most 2,100 bytes of data, with their code
+-- the objects of a reply with at most 2,100 bytes of data, with their MAC
 pub length-sealed_objects : (enc mac count content : List ℕ) (status : ℕ) → length content ≤ 2100
-    → length (with_code mac count (reply_objects enc count content (status_bytes status))) ≤ 2136
+    → length (with_mac mac count (reply_objects enc count content (status_bytes status))) ≤ 2136
 length-sealed_objects enc mac count content status short =
     let encrypted : List ℕ = encrypted_object enc count content in
     let all : List ℕ = reply_objects enc count content (status_bytes status) in
     let four : length (object 0x99 (status_bytes status)) ≡ 4 = ap length (status_object_is _ _) in
     let sum = length-append encrypted (object 0x99 (status_bytes status)) in
-    let whole = length-append all (code_object mac count all) in
-    omega (arith, length-encrypted_object enc count content, length-code_object mac count all)
+    let whole = length-append all (mac_object mac count all) in
+    omega (arith, length-encrypted_object enc count content, length-mac_object mac count all)
 
 -- a written command has at most nine bytes more than its body
 tail_size : (form : Case) (body : List ℕ) (ne : ℕ) → length (tail form body ne) ≤ length body + 5

@@ -7,3 +7,4 @@ pub mod SealedFacts
 pub mod LeFacts
 pub mod ProtectedFacts
 pub mod OneProtected
+pub mod EncryptedFacts

@@ -11,8 +11,8 @@ use Rattle.eid_tlv.specs.declared.lists.Found.TheVariants.{NoList, Absent, Once,
 use Rattle.eid_tlv.proofs.Walks.{one_list}
 use Rattle.eid_tlv.proofs.Sizes.{object_size}
 use Rattle.eid_cmac.specs.Cmac.{mac8}
-use Rattle.eid_sm.specs.Parts.{cryptogram, encrypted_object, padded_objects, code_object, with_code}
-use Rattle.eid_sm.specs.Replies.{HasNoCode}
+use Rattle.eid_sm.specs.Parts.{cryptogram, encrypted_object, padded_objects, mac_object, with_mac}
+use Rattle.eid_sm.specs.Replies.{HasNoMac}
 use Rattle.eid_sm.proofs.Lengths.{length-mac8}
 
 -- a list of objects as a fact on bytes
@@ -51,10 +51,10 @@ listed_encrypted key count (b ∷ bs) short =
     let value : List ℕ = 0x01 ∷ cryptogram key count (b ∷ bs) in
     listed_one 0x87 value (record { tagged = refl; sized = omega (arith, object_size 0x87 value, short) })
 
--- objects with their code are no list without a code
-pub code_is_there : (key start bytes : List ℕ) → AreListed bytes → HasNoCode (with_code key start bytes) → ⊥
-unfolding code_object
-code_is_there key start bytes listed none =
+-- data objects with their MAC are no list without a MAC
+pub mac_is_there : (key start bytes : List ℕ) → AreListed bytes → HasNoMac (with_mac key start bytes) → ⊥
+unfolding mac_object
+mac_is_there key start bytes listed none =
     let code : List ℕ = mac8 key (start ++ padded_objects bytes) in
     let last : Object = record { tag = 0x8E; value = code } in
     let fits : IsObject 0x8E code = record { tagged = refl; sized = omega (arith, length-mac8 key (start ++ padded_objects bytes)) } in
@@ -69,7 +69,7 @@ code_is_there key start bytes listed none =
 
 -- ---- what is found of object 8E
 
-pub absent : (bytes : List ℕ) (f : Found) → IsFound 0x8E bytes f → HasNoCode bytes → f ≡ Absent
+pub absent : (bytes : List ℕ) (f : Found) → IsFound 0x8E bytes f → HasNoMac bytes → f ≡ Absent
 absent bytes NoList told none = absurd (told none.list none.is_list)
 absent bytes Absent told none = refl
 absent bytes (Once value) told none =

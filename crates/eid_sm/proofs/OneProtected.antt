@@ -17,11 +17,11 @@ use Rattle.eid_apdu.specs.Answer.{PlainReply, status_bytes}
 use Rattle.eid_apdu.specs.Command.{PlainCommand, IsShortLe, IsExtendedLe, short_le, extended_le}
 use Rattle.eid_apdu.proofs.OneCommand.{spells_one}
 use Rattle.eid_sm.specs.Keys.{Keys, counter_bytes}
-use Rattle.eid_sm.specs.Parts.{AreBytes, cryptogram, encrypted_object, code_object, with_code}
+use Rattle.eid_sm.specs.Parts.{AreBytes, cryptogram, encrypted_object, mac_object, with_mac}
 use Rattle.eid_sm.specs.Commands.{LeForm, NoLe, OneByte, TwoBytes, le_object, CanSay, sent_command, IsProtected}
 use Rattle.eid_sm.specs.Replies.{reply_objects, IsSealed}
 use Rattle.eid_sm.proofs.PartFacts.{le_object_one, le_object_two, status_object_is}
-use Rattle.eid_sm.proofs.Lengths.{length-code_object}
+use Rattle.eid_sm.proofs.Lengths.{length-mac_object}
 use Rattle.eid_sm.proofs.Ends.{before_end, after_before}
 use Rattle.eid_sm.proofs.Opening.{padded_blocks}
 
@@ -130,10 +130,10 @@ same_le TwoBytes TwoBytes m k first second e =
 abbrev command_of : ℕ → ℕ → ℕ → ℕ → List ℕ → ℕ → PlainCommand
 command_of cla ins p1 p2 body ne = record { cla = cla; ins = ins; p1 = p1; p2 = p2; body = body; ne = ne }
 
-same_objects : (key a b s t : List ℕ) → with_code key s a ≡ with_code key t b → a ≡ b
+same_objects : (key a b s t : List ℕ) → with_mac key s a ≡ with_mac key t b → a ≡ b
 same_objects key a b s t e =
-    sym (before_end (with_code key s a) a (code_object key s a) 10 refl (length-code_object key s a))
-    ∙ before_end (with_code key s a) b (code_object key t b) 10 e (length-code_object key t b)
+    sym (before_end (with_mac key s a) a (mac_object key s a) 10 refl (length-mac_object key s a))
+    ∙ before_end (with_mac key s a) b (mac_object key t b) 10 e (length-mac_object key t b)
 
 pub one_protected : (keys : Keys) (n : ℕ) (bytes : List ℕ) (c d : PlainCommand) → AreBytes keys.enc → IsProtected keys n bytes c → IsProtected keys n bytes d → c ≡ d
 one_protected keys n bytes c d octets p q =
@@ -162,8 +162,8 @@ reply_of content status = record { content = content; status = status }
 pub one_sealed : (keys : Keys) (n : ℕ) (bytes : List ℕ) (r s : PlainReply) → AreBytes keys.enc → IsSealed keys n bytes r → IsSealed keys n bytes s → r ≡ s
 one_sealed keys n bytes r s octets p q =
     let count : List ℕ = counter_bytes n in
-    let first : List ℕ = with_code keys.mac count (reply_objects keys.enc count r.content (status_bytes r.status)) in
-    let second : List ℕ = with_code keys.mac count (reply_objects keys.enc count s.content (status_bytes s.status)) in
+    let first : List ℕ = with_mac keys.mac count (reply_objects keys.enc count r.content (status_bytes r.status)) in
+    let second : List ℕ = with_mac keys.mac count (reply_objects keys.enc count s.content (status_bytes s.status)) in
     let codes : first ≡ second =
     sym (before_end bytes first (status_bytes r.status) 2 p.written refl) ∙ before_end bytes second (status_bytes s.status) 2 q.written refl in
     let ends : status_bytes r.status ≡ status_bytes s.status =

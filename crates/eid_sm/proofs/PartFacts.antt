@@ -58,6 +58,11 @@ empty s told = none s (eqb-true (length s) 0 (sym told)) where
   none [] size = refl
   none (b ∷ bs) size = absurd (omega arith)
 
+-- bytes that are not none are some
+pub some_bytes : (s : List ℕ) → false ≡ (length s == 0) → 0 < length s
+some_bytes [] told = absurd (not_empty [] told refl)
+some_bytes (b ∷ bs) told = omega arith
+
 no_object : (value : List ℕ) → object 0x87 value ≡ [] → ⊥
 unfolding object tag_bytes
 no_object value e = cc

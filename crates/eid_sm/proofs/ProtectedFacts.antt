@@ -6,31 +6,31 @@ use Rattle.eid_apdu.specs.Writing.{written}
 use Rattle.eid_apdu.proofs.Written.{spells_written}
 use Rattle.eid_apdu.specs.Command.{PlainCommand, Spells, short_le, extended_le, two_bytes}
 use Rattle.eid_sm.specs.Keys.{Keys, counter_bytes}
-use Rattle.eid_sm.specs.Parts.{AreBytes, encrypted_object, code_object, with_code}
-use Rattle.eid_sm.specs.Replies.{HasNoCode}
+use Rattle.eid_sm.specs.Parts.{AreBytes, encrypted_object, mac_object, with_mac}
+use Rattle.eid_sm.specs.Replies.{HasNoMac}
 use Rattle.eid_sm.specs.Commands.{LeForm, NoLe, OneByte, TwoBytes, le_object, CanSay, IsPlainClass, command_start, command_objects, sent_header, protected_body, sent_command, written_form, greatest_ne, written_command, AreCommandObjects, IsProtected, HasObjects, LacksObjects}
 use Rattle.eid_sm.proofs.PartFacts.{object_fits}
-use Rattle.eid_sm.proofs.Lengths.{length-encrypted_object, length-code_object}
-use Rattle.eid_sm.proofs.Lists.{AreListed, listed_none, listed_both, listed_one, listed_encrypted, code_is_there}
+use Rattle.eid_sm.proofs.Lengths.{length-encrypted_object, length-mac_object}
+use Rattle.eid_sm.proofs.Lists.{AreListed, listed_none, listed_both, listed_one, listed_encrypted, mac_is_there}
 
 -- bytes that have the objects do not lack them
 pub not_lacking : (bytes : List ℕ) (sent : PlainCommand) → HasObjects bytes sent → LacksObjects bytes → ⊥
-not_lacking bytes sent has lacks = has.code (lacks sent has.spelled has.size has.class)
+not_lacking bytes sent has lacks = has.mac (lacks sent has.spelled has.size has.class)
 
 listed_le : (form : LeForm) (ne : ℕ) → AreListed (le_object form ne)
 listed_le NoLe ne = listed_none
 listed_le OneByte ne = listed_one 0x97 (short_le ne ∷ []) (record { tagged = refl; sized = omega arith })
 listed_le TwoBytes ne = listed_one 0x97 (two_bytes (extended_le ne)) (record { tagged = refl; sized = omega arith })
 
--- the objects of a protected command have a code
-pub command_has_code : (enc mac count start body : List ℕ) (form : LeForm) (ne : ℕ) → length (with_code mac start (command_objects enc count form body ne)) ≤ 2200
-    → HasNoCode (with_code mac start (command_objects enc count form body ne)) → ⊥
-command_has_code enc mac count start body form ne size none =
+-- the data objects of a protected command have a MAC
+pub command_has_mac : (enc mac count start body : List ℕ) (form : LeForm) (ne : ℕ) → length (with_mac mac start (command_objects enc count form body ne)) ≤ 2200
+    → HasNoMac (with_mac mac start (command_objects enc count form body ne)) → ⊥
+command_has_mac enc mac count start body form ne size none =
     let encrypted : List ℕ = encrypted_object enc count body in
     let all : List ℕ = command_objects enc count form body ne in
-    let whole = length-append all (code_object mac start all) in
+    let whole = length-append all (mac_object mac start all) in
     let sum = length-append encrypted (le_object form ne) in
-    code_is_there mac start all
+    mac_is_there mac start all
     (listed_both encrypted (le_object form ne) (listed_encrypted enc count body (omega (arith, size))) (listed_le form ne)) none
 
 pub protected_has_objects : (keys : Keys) (n : ℕ) (bytes : List ℕ) (c : PlainCommand) → (is : IsProtected keys n bytes c)
@@ -39,7 +39,7 @@ protected_has_objects keys n bytes c is = record {
   spelled = is.spelled;
   size = is.size;
   class = let plain : c.cla / 4 % 4 ≡ 0 = is.class in omega arith;
-  code = command_has_code keys.enc keys.mac (counter_bytes n) (command_start (counter_bytes n) (sent_header c)) c.body is.form c.ne is.size;
+  mac = command_has_mac keys.enc keys.mac (counter_bytes n) (command_start (counter_bytes n) (sent_header c)) c.body is.form c.ne is.size;
 }
 
 abbrev command_of : ℕ → ℕ → ℕ → ℕ → List ℕ → ℕ → PlainCommand
@@ -51,7 +51,7 @@ pub is_protected : (keys : Keys) (n : ℕ) (bytes body : List ℕ) (sent : Plain
 is_protected keys n bytes body sent ne has octets are =
     let class : sent.cla / 4 % 4 ≡ 3 = has.class in
     let cla : sent.cla ≡ sent.cla - 0x0C + 0x0C = omega arith in
-    let P : ℕ → Type 0 = λ cla. sent.body ≡ with_code keys.mac (command_start (counter_bytes n) (cla ∷ sent.ins ∷ sent.p1 ∷ sent.p2 ∷ [])) (command_objects keys.enc (counter_bytes n) are.form body ne) in
+    let P : ℕ → Type 0 = λ cla. sent.body ≡ with_mac keys.mac (command_start (counter_bytes n) (cla ∷ sent.ins ∷ sent.p1 ∷ sent.p2 ∷ [])) (command_objects keys.enc (counter_bytes n) are.form body ne) in
     let written : P (sent.cla - 0x0C + 0x0C) = subst P cla are.written in
     let same : sent ≡ command_of (sent.cla - 0x0C + 0x0C) sent.ins sent.p1 sent.p2 (protected_body keys n are.form (command_of (sent.cla - 0x0C) sent.ins sent.p1 sent.p2 body ne)) sent.ne =
     ap (λ (k : ℕ). command_of k sent.ins sent.p1 sent.p2 sent.body sent.ne) cla ∙ ap (λ (b : List ℕ). command_of (sent.cla - 0x0C + 0x0C) sent.ins sent.p1 sent.p2 b sent.ne) written in
@@ -102,12 +102,12 @@ le_size NoLe ne = omega arith
 le_size OneByte ne = omega (arith, object_fits 0x97 (short_le ne ∷ []))
 le_size TwoBytes ne = omega (arith, object_fits 0x97 (two_bytes (extended_le ne)))
 
-protected_size : (enc mac count start body : List ℕ) (form : LeForm) (ne : ℕ) → length (with_code mac start (command_objects enc count form body ne)) ≤ length body + 39
+protected_size : (enc mac count start body : List ℕ) (form : LeForm) (ne : ℕ) → length (with_mac mac start (command_objects enc count form body ne)) ≤ length body + 39
 protected_size enc mac count start body form ne =
     let all : List ℕ = command_objects enc count form body ne in
-    let whole = length-append all (code_object mac start all) in
+    let whole = length-append all (mac_object mac start all) in
     let sum = length-append (encrypted_object enc count body) (le_object form ne) in
-    omega (arith, length-encrypted_object enc count body, le_size form ne, length-code_object mac start all)
+    omega (arith, length-encrypted_object enc count body, le_size form ne, length-mac_object mac start all)
 
 pub written_is_protected : (keys : Keys) (n : ℕ) (bytes : List ℕ) (c : PlainCommand) → bytes ≡ written (written_command keys n c) → length c.body ≤ 2048 → c.ne ≤ 65536
     → IsPlainClass c.cla → AreBytes c.body → IsProtected keys n bytes c

@@ -4,16 +4,16 @@ use Rattle.eid_cmac.specs.Padding.{padded}
 use Rattle.eid_tlv.specs.Objects.{object}
 use Rattle.eid_apdu.specs.Command.{PlainCommand, Spells, IsShortLe, IsExtendedLe, short_le, extended_le, two_bytes}
 use Rattle.eid_sm.specs.Keys.{Keys, counter_bytes}
-use Rattle.eid_sm.specs.Parts.{AreBytes, encrypted_object, with_code}
-use Rattle.eid_sm.specs.Replies.{HasNoCode}
+use Rattle.eid_sm.specs.Parts.{AreBytes, encrypted_object, with_mac}
+use Rattle.eid_sm.specs.Replies.{HasNoMac}
 
--- how object 97 says the expected length: not at all, in one byte, or in two
+-- how DO 97 says the expected length: not at all, in one byte, or in two
 pub data LeForm : Type 0 where
   NoLe : LeForm
   OneByte : LeForm
   TwoBytes : LeForm
 
--- object 97 where there is one
+-- DO 97 where there is one
 abbrev pub le_object : LeForm → ℕ → List ℕ
 le_object NoLe ne = []
 le_object OneByte ne = object 0x97 (short_le ne ∷ [])
@@ -31,7 +31,7 @@ pub record IsLe (bytes : List ℕ) (ne : ℕ) : Type 0 where
   pub says : CanSay form ne
   pub written : bytes ≡ le_object form ne
 
--- the class with the bits 0C, which say that the header is covered by the code
+-- the class with the bits 0C, which say that the header is covered by the MAC
 abbrev pub protected_class : ℕ → ℕ
 protected_class cla = cla + 0x0C
 
@@ -42,7 +42,7 @@ IsPlainClass cla = cla / 4 % 4 ≡ 0
 abbrev pub IsProtectedClass : ℕ → Type 0
 IsProtectedClass cla = cla / 4 % 4 ≡ 3
 
--- what stands before the objects in the code: the counter, and the header as sent, padded
+-- what stands before the data objects in the MAC: the send sequence counter, and the header as sent, padded
 abbrev pub command_start : List ℕ → List ℕ → List ℕ
 command_start count header = count ++ padded header
 
@@ -50,20 +50,20 @@ command_start count header = count ++ padded header
 abbrev pub command_objects : List ℕ → List ℕ → LeForm → List ℕ → ℕ → List ℕ
 command_objects key count form body ne = encrypted_object key count body ++ le_object form ne
 
--- the bytes are these objects with their code, in one of the forms
+-- the bytes are these data objects with their MAC, in one of the forms
 pub record AreCommandObjects (enc mac count header bytes body : List ℕ) (ne : ℕ) : Type 0 where
   pub form : LeForm
   pub says : CanSay form ne
-  pub written : bytes ≡ with_code mac (command_start count header) (command_objects enc count form body ne)
+  pub written : bytes ≡ with_mac mac (command_start count header) (command_objects enc count form body ne)
 
 -- the header as sent
 abbrev pub sent_header : PlainCommand → List ℕ
 sent_header c = protected_class c.cla ∷ c.ins ∷ c.p1 ∷ c.p2 ∷ []
 
--- the objects of a command at counter n, with their code
+-- the data objects of a command at send sequence counter n, with their MAC
 abbrev pub protected_body : Keys → ℕ → LeForm → PlainCommand → List ℕ
 protected_body keys n form c =
-    with_code keys.mac (command_start (counter_bytes n) (sent_header c)) (command_objects keys.enc (counter_bytes n) form c.body c.ne)
+    with_mac keys.mac (command_start (counter_bytes n) (sent_header c)) (command_objects keys.enc (counter_bytes n) form c.body c.ne)
 
 -- the command as sent, which has an expected length of its own
 abbrev pub sent_command : Keys → ℕ → LeForm → PlainCommand → ℕ → PlainCommand
@@ -99,14 +99,14 @@ abbrev pub written_command : Keys → ℕ → PlainCommand → PlainCommand
 written_command keys n c = sent_command keys n (written_form c.ne) c (greatest_ne (length (protected_body keys n (written_form c.ne) c)))
 
 -- the bytes spell that command, with a body of at most 2,200 bytes and both bits 0C in its class, and its body is not
--- a list of objects without an 8E
+-- a list of data objects without a DO 8E
 pub record HasObjects (bytes : List ℕ) (sent : PlainCommand) : Type 0 where
   pub spelled : Spells bytes sent
   pub size : length sent.body ≤ 2200
   pub class : IsProtectedClass sent.cla
-  pub code : HasNoCode sent.body → ⊥
+  pub mac : HasNoMac sent.body → ⊥
 
 -- the bytes spell no such command: of each of that size and class that they spell, the body is such a list
 abbrev pub LacksObjects : List ℕ → Type 0
 LacksObjects bytes =
-    (sent : PlainCommand) → Spells bytes sent → length sent.body ≤ 2200 → IsProtectedClass sent.cla → HasNoCode sent.body
+    (sent : PlainCommand) → Spells bytes sent → length sent.body ≤ 2200 → IsProtectedClass sent.cla → HasNoMac sent.body

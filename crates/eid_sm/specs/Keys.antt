@@ -1,22 +1,22 @@
--- The keys and the counter of secure messaging (BSI TR-03110-3).
+-- The keys and the send sequence counter of secure messaging (BSI TR-03110-3).
 use Rattle.std.specs.Prelude.{ℕ, ◌+◌, ◌%◌, ◌^◌, List}
 use Rattle.std.specs.Int.{w128, to_be_bytes}
 
--- the bytes of the key for encryption and of the key for the code
+-- the bytes of the key for encryption and of the key for MACs
 pub record Keys : Type 0 where
   pub enc : List ℕ
   pub mac : List ℕ
 
--- what a channel keeps: its keys, and the counter of the last message
+-- what a channel keeps: its keys, and the send sequence counter of the last message
 pub record ChannelState : Type 0 where
   pub keys : Keys
   pub counter : ℕ
 
--- a counter as 16 bytes, its high byte first
+-- a send sequence counter as 16 bytes, its high byte first
 unfoldable pub counter_bytes : ℕ → List ℕ
 counter_bytes n = to_be_bytes w128 n
 
--- the counter of the next message; 0 follows the greatest number of 16 bytes
+-- the send sequence counter of the next message; 0 follows the greatest number of 16 bytes
 abbrev pub next_counter : ℕ → ℕ
 next_counter n = (n + 1) % 2 ^ 128
 

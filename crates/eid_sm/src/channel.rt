@@ -1,4 +1,4 @@
-//! A channel: its keys and its counter.
+//! A channel: its keys and its send sequence counter.
 ghost use Rattle.std.specs.Prelude.{◌≡◌, ◌≢◌, ℕ, ◌≤◌, ◌↔◌, List, length, IsOk, OnOk, OnErr, IfOk, IsOkAnd};
 ghost use Rattle.arrayvec.specs.ArrayVec.{array_vec_len};
 ghost use Rattle.eid_apdu.specs.Answer.{PlainReply, plain_reply};
@@ -11,8 +11,8 @@ ghost use Rattle.eid_sm.specs.Plain.{plain_of};
 ghost use Rattle.eid_sm.specs.Replies.{sealed, IsSealed, IsBareReply};
 
 use crate::commands::{open_objects, read_sent, write_objects, write_sent};
-use crate::parts::{MAX_MESSAGE, append, append_code, append_encrypted};
-use crate::reading::has_no_code;
+use crate::parts::{MAX_MESSAGE, append, append_encrypted, append_mac};
+use crate::reading::has_no_mac;
 use crate::replies::{open_reply, split_status};
 use arrayvec::ArrayVec;
 use eid_aes::Aes;
@@ -24,16 +24,16 @@ use std::marker::Model;
 pub const MAX_PLAIN: usize = 2048;
 
 /// Why a protected message was refused.
-#[derive(Clone, Copy, Debug, PartialEq, Eq, Hash)]
+#[derive(Clone, Copy)]
 pub enum SmError {
-    /// The objects of secure messaging are missing.
+    /// The data objects of secure messaging are missing.
     Missing,
-    /// The message has other objects than the one of the next counter, in another order, or another code.
+    /// The message has other data objects than the one of the next counter, in another order, or another MAC.
     Wrong,
 }
 
 /// A plain command without its body.
-#[derive(Clone, Copy, Debug, PartialEq, Eq)]
+#[derive(Clone, Copy, Debug)]
 pub struct Header {
     /// The class byte, without the bits 0C.
     pub cla: u8,
@@ -63,7 +63,7 @@ impl Header {
     }
 }
 
-/// The state of secure messaging: the keys for encryption and for the code, expanded once, and the
+/// The state of secure messaging: the keys for encryption and for MACs, expanded once, and the send sequence
 /// counter of the last message. A contract sees the keys' bytes and the counter as a number.
 #[derive(Drop)]
 pub struct Channel {
@@ -79,7 +79,7 @@ impl Model for Channel {
 }
 
 impl Channel {
-    /// A channel under these keys. Its counter is 0.
+    /// A channel under these keys. Its send sequence counter is 0.
     pub fn new(enc: [u8; 16], mac: [u8; 16]) -> Channel
         ensures { result ≡ record { keys = record { enc = enc; mac = mac }; counter = 0 } }
     {
@@ -103,12 +103,13 @@ impl Channel {
         out.clear();
         append_encrypted(&self.enc, &count, reply.content.as_slice(), out);
         append(out, 0x99, &status);
-        append_code(&self.mac, &count, out);
+        append_mac(&self.mac, &count, out);
         out.try_extend_from_slice(&status).unwrap();
     }
 
     /// Writes a protected form of a command, at the next counter, over what `out` held: with the expected
-    /// length in one byte up to 256, and the greatest expected length outside, short where it can be.
+    /// length in one byte up to 256, and the greatest expected length outside, short where it can be. The data
+    /// objects are made in a buffer of their own, since the command's length field before them says their length.
     pub fn wrap(&mut self, c: &Command<'_>, out: &mut ArrayVec<u8, MAX_MESSAGE>)
         requires body { length c.now.body.now ≤ MAX_PLAIN }
         requires expected { c.now.ne ≤ 65536 }
@@ -139,7 +140,7 @@ impl Channel {
     ///
     /// # Errors
     /// `Missing` exactly where the bytes are no command with a body of at most 2,200 bytes, its class has
-    /// not both bits 0C, or its body is a list of objects without an 8E. `Wrong` exactly where they are
+    /// not both bits 0C, or its body is a list of data objects without a DO 8E. `Wrong` exactly where they are
     /// neither that nor a protected form of a command at the next counter.
     pub fn unwrap(
         &mut self,
@@ -177,7 +178,7 @@ impl Channel {
     /// anything, and the channel is not to be used again.
     ///
     /// # Errors
-    /// `Missing` exactly where the bytes are a reply whose content is a list of objects without an 8E,
+    /// `Missing` exactly where the bytes are a reply whose content is a list of data objects without a DO 8E,
     /// `Wrong` exactly where they are neither that nor the protected form of a reply at the next counter.
     pub fn unseal(&mut self, bytes: &[u8], reply: &mut Reply) -> Result<(), SmError>
         ensures found { OnOk result (IsSealed self.old.keys (next_counter self.old.counter) bytes.now (plain_reply reply.new)) }
@@ -190,7 +191,7 @@ impl Channel {
         let Some((objects, status)) = split_status(bytes) else {
             return Err(SmError::Wrong);
         };
-        if objects.len() <= MAX_CONTENT && has_no_code(objects) {
+        if objects.len() <= MAX_CONTENT && has_no_mac(objects) {
             return Err(SmError::Missing);
         }
         let counter = next_counter(self.counter);
@@ -211,14 +212,14 @@ impl Channel {
     }
 }
 
-// The counter of the next message.
+// The send sequence counter of the next message.
 fn next_counter(counter: u128) -> u128
     ensures { result ≡ next_counter counter }
 {
     counter.wrapping_add(1)
 }
 
-// A counter as bytes.
+// A send sequence counter as bytes.
 #[tactic(auto, unfolding(crate::specs::Keys::counter_bytes))]
 fn counter_bytes(counter: u128) -> [u8; 16]
     ensures { result ≡ counter_bytes counter }

@@ -1,38 +1,22 @@
-//! Writing and reading the objects of protected commands.
+//! Writing and reading the data objects of protected commands.
 ghost use Rattle.std.specs.Prelude.{◌≡◌, ℕ, ◌+◌, ◌≤◌, true, List, ◌∷◌, [], ◌++◌, length, Some, IfSome, IfNone, OnSome, IsSomeAnd};
 ghost use Rattle.std.specs.Bool.{OnTrue};
 ghost use Rattle.arrayvec.specs.ArrayVec.{array_vec_len};
-ghost use Rattle.eid_apdu.specs.Command.{PlainCommand, plain_command, Spells, IsExtendedLe, IsShortLe, extended_le, short_le, two_bytes};
+ghost use Rattle.eid_apdu.specs.Command.{PlainCommand, plain_command, Spells};
 ghost use Rattle.eid_apdu.specs.Writing.{written};
-ghost use Rattle.eid_sm.specs.Parts.{AreBytes, encrypted_object, with_code};
+ghost use Rattle.eid_sm.specs.Parts.{AreBytes, encrypted_object, with_mac};
 ghost use Rattle.eid_sm.specs.Commands.{IsLe, greatest_ne, le_object, written_form, command_objects, AreCommandObjects, HasObjects, LacksObjects, IsProtectedClass, command_start};
-ghost use Rattle.eid_sm.specs.Replies.{HasNoCode};
+ghost use Rattle.eid_sm.specs.Replies.{HasNoMac};
 
-use crate::parts::{MAX_MESSAGE, append, append_code, append_encrypted, padding_behind};
-use crate::reading::{has_no_code, open_encrypted, without_code};
+use crate::parts::{MAX_MESSAGE, append, append_encrypted, append_mac};
+use crate::reading::{has_no_mac, open_encrypted, without_mac};
 use arrayvec::ArrayVec;
 use eid_aes::Aes;
-use eid_apdu::{Command, read_command, write_command};
+use eid_apdu::{Command, extended_expected, read_command, short_expected, write_command};
+use eid_cmac::padding;
 use eid_tlv::next;
 
-// The expected length that one byte says: 00 is 256.
-fn short_expected(le: u8) -> u32
-    ensures value { short_le result ≡ le }
-    ensures range { IsShortLe result }
-{
-    if le == 0 { 256 } else { u32::from(le) }
-}
-
-// The expected length that two bytes say: 0000 is 65,536.
-fn extended_expected(high: u8, low: u8) -> u32
-    ensures value { two_bytes (extended_le result) ≡ high ∷ low ∷ [] }
-    ensures range { IsExtendedLe result }
-{
-    let le = u32::from(high) * 256 + u32::from(low);
-    if le == 0 { 65_536 } else { le }
-}
-
-// The expected length that an object 97 says, or 0 where there are no bytes.
+// The expected length that a DO 97 says, or 0 where there are no bytes.
 #[tactic(auto, using(crate::proofs::PartFacts::le_object_one, crate::proofs::PartFacts::le_object_two))]
 fn read_le(bytes: &[u8]) -> Option<u32>
     ensures found { IfSome result (IsLe bytes.now) }
@@ -46,7 +30,7 @@ fn read_le(bytes: &[u8]) -> Option<u32>
     }
 }
 
-// An object 87 at the front of the objects, where there is one, and what stands behind it.
+// A DO 87 at the front of the data objects, where there is one, and what stands behind it.
 fn split_encrypted(objects: &[u8]) -> (&[u8], &[u8])
     requires { length objects.now ≤ MAX_MESSAGE }
     ensures parts { objects.now ≡ result.0.now ++ result.1.now }
@@ -62,20 +46,18 @@ fn split_encrypted(objects: &[u8]) -> (&[u8], &[u8])
     objects.split_at(objects.len() - rest.len())
 }
 
-// What stands before the objects in a command's code: the counter and the padded header.
+// What stands before the data objects in a command's MAC: the send sequence counter and the padded header.
 fn command_start(count: &[u8; 16], header: &[u8; 4]) -> ArrayVec<u8, 32>
     ensures { result.items ≡ command_start count.now header.now }
 {
     let mut start = ArrayVec::new();
     start.try_extend_from_slice(count).unwrap();
     start.try_extend_from_slice(header).unwrap();
-    start
-        .try_extend_from_slice(padding_behind(header.len()))
-        .unwrap();
+    start.try_extend_from_slice(padding(header.len())).unwrap();
     start
 }
 
-// Appends object 97 with an expected length, where there is one.
+// Appends DO 97 with an expected length, where there is one.
 fn append_le(ne: u32, out: &mut ArrayVec<u8, MAX_MESSAGE>)
     requires expected { ne ≤ 65536 }
     requires room { array_vec_len out.old + 7 ≤ MAX_MESSAGE }
@@ -89,13 +71,13 @@ fn append_le(ne: u32, out: &mut ArrayVec<u8, MAX_MESSAGE>)
         append(out, 0x97, &[(ne % 256) as u8]);
         return;
     }
-    append(out, 0x97, &[(ne % 65_536 / 256) as u8, (ne % 256) as u8]);
+    append(out, 0x97, &((ne % 65_536) as u16).to_be_bytes());
 }
 
-/// Writes the objects of a command with their code, over what `out` held.
-pub fn write_objects(
-    enc: &Aes<10>,
-    mac: &Aes<10>,
+/// Writes the data objects of a command with their MAC, over what `out` held.
+pub fn write_objects<const ROUNDS: usize>(
+    enc: &Aes<ROUNDS>,
+    mac: &Aes<ROUNDS>,
     count: &[u8; 16],
     header: &[u8; 4],
     body: &[u8],
@@ -104,14 +86,14 @@ pub fn write_objects(
 )
     requires body { length body.now + 39 ≤ MAX_MESSAGE }
     requires expected { ne ≤ 65536 }
-    ensures items { out.new.items ≡ with_code mac.now (command_start count.now header.now) (command_objects enc.now count.now (written_form ne) body.now ne) }
+    ensures items { out.new.items ≡ with_mac mac.now (command_start count.now header.now) (command_objects enc.now count.now (written_form ne) body.now ne) }
     ensures size { array_vec_len out.new ≤ length body.now + 39 }
     ensures octets { AreBytes body.now }
 {
     out.clear();
     append_encrypted(enc, count, body, out);
     append_le(ne, out);
-    append_code(mac, command_start(count, header).as_slice(), out);
+    append_mac(mac, command_start(count, header).as_slice(), out);
 }
 
 /// Writes a command with that header and body and the greatest expected length that its fields say, short
@@ -135,11 +117,11 @@ pub fn write_sent(header: &[u8; 4], body: &[u8], out: &mut ArrayVec<u8, MAX_MESS
     write_command(&sent, out).unwrap();
 }
 
-/// Decrypts the body of a command into `body` from the objects that stand for it, and gives its expected
-/// length; `None` where they are not of that form or have another code.
-pub fn open_objects(
-    enc: &Aes<10>,
-    mac: &Aes<10>,
+/// Decrypts the body of a command into `body` from the data objects that stand for it, and gives its expected
+/// length; `None` where they are not of that form or have another MAC.
+pub fn open_objects<const ROUNDS: usize>(
+    enc: &Aes<ROUNDS>,
+    mac: &Aes<ROUNDS>,
     count: &[u8; 16],
     header: &[u8; 4],
     bytes: &[u8],
@@ -152,7 +134,7 @@ pub fn open_objects(
         → (result ≡ Some ne) × (body.new.items ≡ b) }
 {
     let start = command_start(count, header);
-    let Some(objects) = without_code(mac, start.as_slice(), bytes) else {
+    let Some(objects) = without_mac(mac, start.as_slice(), bytes) else {
         return None;
     };
     let (encrypted, le) = split_encrypted(objects);
@@ -167,7 +149,7 @@ pub fn open_objects(
 }
 
 /// The command that the bytes spell, where its body has at most 2,200 bytes, its class has both bits 0C,
-/// and its body is not a list of objects without an 8E.
+/// and its body is not a list of data objects without a DO 8E.
 pub fn read_sent(bytes: &[u8]) -> Option<Command<'_>>
     ensures found { IfSome result (λ c. HasObjects bytes.now (plain_command c)) }
     ensures lacking { IfNone result (LacksObjects bytes.now) }
@@ -182,7 +164,7 @@ pub fn read_sent(bytes: &[u8]) -> Option<Command<'_>>
     if sent.cla / 4 % 4 != 3 {
         return None;
     }
-    if has_no_code(sent.body) {
+    if has_no_mac(sent.body) {
         return None;
     }
     Some(sent)

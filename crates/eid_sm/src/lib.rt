@@ -7,8 +7,6 @@ mod commands;
 mod parts;
 mod reading;
 mod replies;
-#[cfg(test)]
-mod tests;
 
 pub use channel::{Channel, Header, MAX_PLAIN, SmError, law_one_protected, law_one_sealed};
 pub use parts::MAX_MESSAGE;

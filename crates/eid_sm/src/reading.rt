@@ -1,4 +1,4 @@
-//! Reading the objects of protected messages.
+//! Reading the data objects of protected messages.
 ghost use Rattle.std.specs.Prelude.{◌≡◌, ℕ, ◌%◌, ◌<◌, ◌≤◌, ◌↔◌, true, List, ◌∷◌, ◌++◌, length, take, Some, IfSome, IsSomeAnd, IsTrue};
 ghost use Rattle.std.specs.Bool.{OnTrue};
 ghost use Rattle.arrayvec.specs.ArrayVec.{array_vec_len};
@@ -6,10 +6,10 @@ ghost use Rattle.eid_aes.specs.Cipher.{cipher};
 ghost use Rattle.eid_aes.specs.Cbc.{AreBlocks, cbc_encrypted};
 ghost use Rattle.eid_cmac.specs.Padding.{padded};
 ghost use Rattle.eid_tlv.specs.Objects.{is_tag, object};
-ghost use Rattle.eid_sm.specs.Parts.{AreBytes, cryptogram, encrypted_object, code_object};
-ghost use Rattle.eid_sm.specs.Replies.{HasNoCode};
+ghost use Rattle.eid_sm.specs.Parts.{AreBytes, cryptogram, encrypted_object, mac_object};
+ghost use Rattle.eid_sm.specs.Replies.{HasNoMac};
 
-use crate::parts::{MAX_MESSAGE, code_bytes};
+use crate::parts::{MAX_MESSAGE, mac_bytes};
 use arrayvec::ArrayVec;
 use eid_aes::Aes;
 use eid_cmac::unpad;
@@ -20,27 +20,32 @@ pub fn without_end<'a>(bytes: &'a [u8], end: &[u8]) -> Option<&'a [u8]>
     ensures found { IfSome result (λ r. bytes.now ≡ r.now ++ end.now) }
     ensures only { (before : List ℕ) → bytes.now ≡ before ++ end.now → IsSomeAnd result (λ r. r.now ≡ before) }
 {
-    if bytes.len() < end.len() {
-        return None;
-    }
-    let (before, after) = bytes.split_at(bytes.len() - end.len());
-    if after == end { Some(before) } else { None }
+    bytes.strip_suffix(end)
 }
 
-/// The objects before the code, where bytes end with the object 8E that they want.
-pub fn without_code<'a>(mac: &Aes<10>, start: &[u8], bytes: &'a [u8]) -> Option<&'a [u8]>
-    ensures found { IfSome result (λ r. bytes.now ≡ r.now ++ code_object mac.now start.now r.now) }
-    ensures only { (objects : List ℕ) → bytes.now ≡ objects ++ code_object mac.now start.now objects → IsSomeAnd result (λ r. r.now ≡ objects) }
+/// The data objects before the MAC, where bytes end with the DO 8E that they want.
+pub fn without_mac<'a, const ROUNDS: usize>(
+    mac: &Aes<ROUNDS>,
+    start: &[u8],
+    bytes: &'a [u8],
+) -> Option<&'a [u8]>
+    ensures found { IfSome result (λ r. bytes.now ≡ r.now ++ mac_object mac.now start.now r.now) }
+    ensures only { (objects : List ℕ) → bytes.now ≡ objects ++ mac_object mac.now start.now objects → IsSomeAnd result (λ r. r.now ≡ objects) }
 {
     if bytes.len() < 10 {
         return None;
     }
-    let code = code_bytes(mac, start, &bytes[..bytes.len() - 10]);
-    without_end(bytes, &code)
+    let object = mac_bytes(mac, start, &bytes[..bytes.len() - 10]);
+    without_end(bytes, &object)
 }
 
 // Decrypts whole blocks into `plain`, from the encrypted counter on.
-fn decrypt(enc: &Aes<10>, count: &[u8; 16], bytes: &[u8], plain: &mut ArrayVec<u8, MAX_MESSAGE>)
+fn decrypt<const ROUNDS: usize>(
+    enc: &Aes<ROUNDS>,
+    count: &[u8; 16],
+    bytes: &[u8],
+    plain: &mut ArrayVec<u8, MAX_MESSAGE>,
+)
     requires fits { length bytes.now ≤ MAX_MESSAGE }
     requires blocks { length bytes.now % 16 ≡ 0 }
     ensures again { bytes.now ≡ cbc_encrypted enc.now (cipher enc.now count.now) plain.new.items }
@@ -65,8 +70,8 @@ fn unpadded(bytes: &[u8]) -> Option<usize>
 }
 
 // Decrypts a cryptogram into `plain`, where it is one of some bytes and not of the padding alone.
-fn open_cryptogram(
-    enc: &Aes<10>,
+fn open_cryptogram<const ROUNDS: usize>(
+    enc: &Aes<ROUNDS>,
     count: &[u8; 16],
     bytes: &[u8],
     plain: &mut ArrayVec<u8, MAX_MESSAGE>,
@@ -87,8 +92,8 @@ fn open_cryptogram(
     size > 0
 }
 
-// The value of the object that the bytes are, where its tag is this one.
-fn only_value(bytes: &[u8], tag: u16) -> Option<&[u8]>
+// The value of the data object that the bytes are, where its tag is this one.
+fn sole_value(bytes: &[u8], tag: u16) -> Option<&[u8]>
     requires tag { IsTrue (is_tag tag) }
     requires size { length bytes.now ≤ MAX_MESSAGE }
     ensures found { IfSome result (λ v. bytes.now ≡ object tag v.now) }
@@ -118,21 +123,21 @@ fn behind_01(bytes: &[u8]) -> Option<&[u8]>
     }
 }
 
-// The cryptogram, where the bytes are an object 87 that begins with the byte 01.
+// The cryptogram, where the bytes are a DO 87 that begins with the byte 01.
 fn cryptogram_in(bytes: &[u8]) -> Option<&[u8]>
     requires { length bytes.now ≤ MAX_MESSAGE }
     ensures found { IfSome result (λ r. bytes.now ≡ object 0x87 (0x01 ∷ r.now)) }
     ensures only { (c : List ℕ) → bytes.now ≡ object 0x87 (0x01 ∷ c) → IsSomeAnd result (λ r. r.now ≡ c) }
 {
-    let Some(value) = only_value(bytes, 0x87) else {
+    let Some(value) = sole_value(bytes, 0x87) else {
         return None;
     };
     behind_01(value)
 }
 
-/// Decrypts into `plain` what the bytes protect: the bytes of an object 87, or none where there are none.
-pub fn open_encrypted(
-    enc: &Aes<10>,
+/// Decrypts into `plain` what the bytes protect: the bytes of a DO 87, or none where there are none.
+pub fn open_encrypted<const ROUNDS: usize>(
+    enc: &Aes<ROUNDS>,
     count: &[u8; 16],
     bytes: &[u8],
     plain: &mut ArrayVec<u8, MAX_MESSAGE>,
@@ -152,9 +157,9 @@ pub fn open_encrypted(
     open_cryptogram(enc, count, cryptogram, plain)
 }
 
-/// Whether bytes are a list of objects without an 8E.
-pub fn has_no_code(bytes: &[u8]) -> bool
-    ensures { IsTrue result ↔ HasNoCode bytes.now }
+/// Whether bytes are a list of data objects without a DO 8E.
+pub fn has_no_mac(bytes: &[u8]) -> bool
+    ensures { IsTrue result ↔ HasNoMac bytes.now }
 {
     matches!(find(bytes, 0x8E), Found::Absent)
 }

@@ -4,3 +4,4 @@ pub mod Beginnings
 pub mod Sizes
 pub mod Walks
 pub mod ListIn
+pub mod Findings

@@ -25,6 +25,10 @@ pub record HasValues (tag : ℕ) (found : List (List ℕ)) (bytes : List ℕ) : 
   pub is_list : IsListOf list bytes
   pub those : values tag list ≡ found
 
+-- the bytes are a list in which exactly one object has this tag, with this value
+abbrev pub HasOnly : ℕ → List ℕ → List ℕ → Type 0
+HasOnly tag value bytes = HasValues tag (value ∷ []) bytes
+
 -- the bytes are a list in which this tag stands more than once
 pub record HasRepeated (tag : ℕ) (bytes : List ℕ) : Type 0 where
   pub list : List Object

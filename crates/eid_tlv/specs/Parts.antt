@@ -1,4 +1,4 @@
--- What the refusals of the parts of an object say.
+-- Inside: what the refusals of the parts of an object say. Only private functions cite these.
 use Rattle.std.specs.Prelude.{◌≡◌, ℕ, ◌<◌, ◌⊎◌, List, [], ◌∷◌, ⊤, true}
 use Rattle.eid_tlv.specs.Objects.{goes_on}
 use Rattle.eid_tlv.specs.Reading.{HasBadLength, HasBadTag, IsBadLength, IsCutShort}

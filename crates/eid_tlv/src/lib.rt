@@ -6,9 +6,6 @@ mod lists;
 mod reading;
 mod writing;
 
-pub use lists::{Found, find, law_list_in, law_one_list};
-pub use reading::{Tlv, TlvError, next};
-pub use writing::put;
-
-#[cfg(test)]
-mod tests;
+pub use lists::{Found, find, law_list_in, law_one_list, law_one_value, only_value};
+pub use reading::{Tlv, TlvError, law_one_object, next};
+pub use writing::{head, is_tag, put};

@@ -1,13 +1,13 @@
 //! Lists of data objects.
-ghost use Rattle.std.specs.Prelude.{◌≡◌, ◌↔◌, ℕ, Some, List, [], ◌∷◌, ◌++◌};
+ghost use Rattle.std.specs.Prelude.{◌≡◌, ◌↔◌, ℕ, Some, List, [], ◌∷◌, ◌++◌, IfSome, IsSomeAnd};
 ghost use Rattle.eid_tlv.specs.Objects.{Object};
 ghost use Rattle.eid_tlv.specs.ListIn.{list_in};
-ghost use Rattle.eid_tlv.specs.Lists.{IsFound, IsAmong, IsListOf};
+ghost use Rattle.eid_tlv.specs.Lists.{IsFound, IsAmong, IsListOf, HasOnly};
 
 use crate::reading::next;
 
 /// What bytes have of a tag.
-#[derive(Clone, Copy, Debug, PartialEq, Eq)]
+#[derive(Clone, Copy)]
 pub enum Found<'a> {
     /// They are no list of objects.
     NoList,
@@ -47,6 +47,23 @@ pub fn find(bytes: &[u8], tag: u16) -> Found<'_>
     }
     found
 }
+
+/// The value that stands with the tag, where the bytes are a list of data objects (ISO/IEC 7816-4) and exactly
+/// one of them has it.
+pub fn only_value(bytes: &[u8], tag: u16) -> Option<&[u8]>
+    ensures found { IfSome result (λ value. HasOnly tag value.now bytes.now) }
+    ensures only { (value : List ℕ) → HasOnly tag value bytes.now → IsSomeAnd result (λ found. found.now ≡ value) }
+{
+    match find(bytes, tag) {
+        Found::Once(value) => Some(value),
+        _ => None,
+    }
+}
+
+/// In a list of data objects a tag has at most one value as its only one.
+pub fn law_one_value()
+    ensures { (tag : ℕ) (bytes v w : List ℕ) → HasOnly tag v bytes → HasOnly tag w bytes → v ≡ w }
+{}
 
 /// Bytes are at most one list of data objects.
 pub fn law_one_list()

@@ -5,7 +5,22 @@ ghost use Rattle.eid_tlv.specs.Objects.{is_tag, length_bytes, object, tag_bytes}
 use arrayvec::ArrayVec;
 use eid_base::Full;
 
-/// Appends the object. `Full` comes exactly where it does not fit, and then `out` is as before.
+/// Whether a number is a tag of one byte or two (ISO/IEC 7816-4).
+#[tactic(auto, unfolding(crate::specs::Objects::is_tag))]
+pub fn is_tag(tag: u16) -> bool
+    ensures { result ≡ is_tag tag }
+{
+    if tag < 0x100 {
+        return tag % 32 != 31;
+    }
+    tag / 256 % 32 == 31 && 0x1F <= tag % 256 && tag % 256 <= 0x7F
+}
+
+/// Appends the data object with this tag and this value of at most 65,535 bytes, its length in the shortest
+/// form (ISO/IEC 7816-4, BER-TLV).
+///
+/// # Errors
+/// `Full` exactly where it does not fit; `out` is then as before.
 #[tactic(auto, using(crate::proofs::Sizes::object_size, crate::proofs::Sizes::object_written))]
 pub fn put<const N: usize>(out: &mut ArrayVec<u8, N>, tag: u16, value: &[u8]) -> Result<(), Full>
     requires tag { IsTrue (is_tag tag) }
@@ -14,18 +29,18 @@ pub fn put<const N: usize>(out: &mut ArrayVec<u8, N>, tag: u16, value: &[u8]) ->
     ensures full { IsErr result ↔ (N < array_vec_len out.old + length (object tag value.now)) }
     ensures same { OnErr result (out.new ≡ out.old) }
 {
-    let head = head_of(tag, value.len());
+    let head = head(tag, value.len());
     if out.remaining_capacity() < head.len() + value.len() {
         return Err(Full);
     }
-    let _ = out.try_extend_from_slice(&head);
-    let _ = out.try_extend_from_slice(value);
+    out.try_extend_from_slice(&head).unwrap();
+    out.try_extend_from_slice(value).unwrap();
     Ok(())
 }
 
-// What stands before a value of that size.
+/// What stands before a value of so many bytes, at most 65,535: the tag, and the length in its shortest form.
 #[tactic(auto, using(crate::proofs::Sizes::tag_size))]
-fn head_of(tag: u16, size: usize) -> ArrayVec<u8, 5>
+pub fn head(tag: u16, size: usize) -> ArrayVec<u8, 5>
     requires { size ≤ 65535 }
     ensures { result.items ≡ tag_bytes tag ++ length_bytes size }
 {
@@ -44,8 +59,9 @@ fn put_tag(out: &mut ArrayVec<u8, 5>, tag: u16)
         out.push(tag as u8);
         return;
     }
-    out.push((tag / 256) as u8);
-    out.push((tag % 256) as u8);
+    let [high, low] = tag.to_be_bytes();
+    out.push(high);
+    out.push(low);
 }
 
 #[tactic(auto, unfolding(crate::specs::Objects::length_bytes))]
@@ -63,7 +79,8 @@ fn put_length(out: &mut ArrayVec<u8, 5>, size: usize)
         out.push(size as u8);
         return;
     }
+    let [high, low] = (size as u16).to_be_bytes();
     out.push(0x82);
-    out.push((size / 256) as u8);
-    out.push((size % 256) as u8);
+    out.push(high);
+    out.push(low);
 }

@@ -64,6 +64,16 @@ pub fn cmac(alloc: Global, words: &[&str]) -> Answer {
     shown(alloc, &eid_cmac::cmac(&key, &first, &second, &third))
 }
 
+/// `mac8 KEY BYTES`: the first 8 bytes of the MAC.
+pub fn mac8(alloc: Global, words: &[&str]) -> Answer {
+    let [key, message] = words else {
+        return Err(Unanswered::Unclear);
+    };
+    let key = Aes::<10>::new(&array::<16>(key)?);
+    let message = bytes(alloc, message)?;
+    shown(alloc, &eid_cmac::mac8(&key, &message, &[], &[]))
+}
+
 /// `derive SECRET NONCE NUMBER`: the key of that number.
 pub fn derive(alloc: Global, words: &[&str]) -> Answer {
     let [secret, nonce, which] = words else {

@@ -3,6 +3,7 @@
 //! as they are; what is no question is answered by `?`.
 #![tactic(auto)]
 
+mod channels;
 mod ciphers;
 mod messages;
 mod objects;
@@ -27,14 +28,20 @@ fn answer(alloc: Global, line: &str) -> Answer {
         "object" => objects::object(alloc, words),
         "put" => objects::put(alloc, words),
         "find" => objects::find(alloc, words),
+        "only" => objects::only(alloc, words),
         "encrypt" => ciphers::encrypt(alloc, words),
         "decrypt" => ciphers::decrypt(alloc, words),
         "cbc-encrypt" => ciphers::cbc_encrypt(alloc, words),
         "cbc-decrypt" => ciphers::cbc_decrypt(alloc, words),
         "cmac" => ciphers::cmac(alloc, words),
+        "mac8" => ciphers::mac8(alloc, words),
         "derive" => ciphers::derive(alloc, words),
         "pad" => ciphers::pad(alloc, words),
         "unpad" => ciphers::unpad(alloc, words),
+        "wrap" => channels::wrap(alloc, words),
+        "unwrap" => channels::unwrap(alloc, words),
+        "seal" => channels::seal(alloc, words),
+        "unseal" => channels::unseal(alloc, words),
         "date" => templates::date(alloc, words),
         "template" => templates::template(alloc, words),
         "identifier" => templates::identifier(alloc, words),

@@ -10,6 +10,21 @@ use std::alloc::Global;
 /// How many bytes the buffer has that a command or a reply is written into.
 const ROOM: usize = 300;
 
+/// A command as an answer.
+pub fn shown_command(alloc: Global, c: &Command<'_>) -> Answer {
+    let header = shown(alloc, &[c.cla, c.ins, c.p1, c.p2])?;
+    let body = shown(alloc, c.body)?;
+    let ne = c.ne;
+    Ok(format!(in alloc; "{header} ne {ne} body {body}")?)
+}
+
+/// A reply as an answer.
+pub fn shown_reply(alloc: Global, reply: &Reply) -> Answer {
+    let status = reply.status.0;
+    let content = shown(alloc, reply.content.as_slice())?;
+    Ok(format!(in alloc; "{status:04x} content {content}")?)
+}
+
 /// `command BYTES`: the command that the bytes are, or `bad`.
 pub fn command(alloc: Global, words: &[&str]) -> Answer {
     let [sent] = words else {
@@ -19,10 +34,7 @@ pub fn command(alloc: Global, words: &[&str]) -> Answer {
     let Ok(c) = eid_apdu::read_command(&sent) else {
         return word(alloc, "bad");
     };
-    let header = shown(alloc, &[c.cla, c.ins, c.p1, c.p2])?;
-    let body = shown(alloc, c.body)?;
-    let ne = c.ne;
-    Ok(format!(in alloc; "{header} ne {ne} body {body}")?)
+    shown_command(alloc, &c)
 }
 
 /// `write-command BEFORE HEADER NE BODY`: what the buffer holds once the command is written behind BEFORE.
@@ -58,9 +70,7 @@ pub fn reply(alloc: Global, words: &[&str]) -> Answer {
     let Ok(reply) = eid_apdu::read_reply(&sent) else {
         return word(alloc, "bad");
     };
-    let status = reply.status.0;
-    let content = shown(alloc, reply.content.as_slice())?;
-    Ok(format!(in alloc; "{status:04x} content {content}")?)
+    shown_reply(alloc, &reply)
 }
 
 /// `write-reply BEFORE STATUS CONTENT`: what the buffer holds once the reply is written behind BEFORE.

@@ -1,6 +1,6 @@
 //! Questions about data objects.
-use crate::words::{Answer, Unanswered, buffer, bytes, shown, shown_buffer, two_bytes, word};
-use eid_tlv::{Found, TlvError};
+use crate::words::{Answer, Unanswered, buffer, bytes, shown, shown_buffer, tag as tag_of, word};
+use eid_tlv::{Found, TlvError, is_tag};
 use std::alloc::Global;
 
 /// How many bytes the buffer has that an object is written into.
@@ -22,7 +22,7 @@ pub fn object(alloc: Global, words: &[&str]) -> Answer {
     let tag = object.tag;
     let value = shown(alloc, object.value)?;
     let rest = shown(alloc, rest)?;
-    Ok(format!(in alloc; "{tag:04x} value {value} rest {rest}")?)
+    Ok(format!(in alloc; "{tag:02x} value {value} rest {rest}")?)
 }
 
 /// `put BEFORE TAG VALUE`: what the buffer holds once the data object is written behind BEFORE.
@@ -30,12 +30,9 @@ pub fn put(alloc: Global, words: &[&str]) -> Answer {
     let [before, tag, value] = words else {
         return Err(Unanswered::Unclear);
     };
-    let tag = match two_bytes(tag)? {
-        tag @ (0x87 | 0x53 | 0x5F24) => tag,
-        _ => return Err(Unanswered::Unclear),
-    };
+    let tag = tag_of(tag)?;
     let value = bytes(alloc, value)?;
-    if value.len() > 65_535 {
+    if !is_tag(tag) || value.len() > 65_535 {
         return Err(Unanswered::Unclear);
     }
     let mut out = buffer::<ROOM>(alloc, before)?;
@@ -48,7 +45,7 @@ pub fn find(alloc: Global, words: &[&str]) -> Answer {
     let [tag, list] = words else {
         return Err(Unanswered::Unclear);
     };
-    let tag = two_bytes(tag)?;
+    let tag = tag_of(tag)?;
     let list = bytes(alloc, list)?;
     match eid_tlv::find(&list, tag) {
         Found::NoList => word(alloc, "no list"),
@@ -58,5 +55,17 @@ pub fn find(alloc: Global, words: &[&str]) -> Answer {
             let value = shown(alloc, value)?;
             Ok(format!(in alloc; "once {value}")?)
         }
+    }
+}
+
+/// `only TAG BYTES`: the value of the one data object with the tag in the list that the bytes are, or `none`.
+pub fn only(alloc: Global, words: &[&str]) -> Answer {
+    let [tag, list] = words else {
+        return Err(Unanswered::Unclear);
+    };
+    let list = bytes(alloc, list)?;
+    match eid_tlv::only_value(&list, tag_of(tag)?) {
+        Some(value) => shown(alloc, value),
+        None => word(alloc, "none"),
     }
 }

@@ -94,6 +94,15 @@ pub fn two_bytes(word: &str) -> Result<u16, Unanswered> {
     Ok(u16::from_be_bytes(array::<2>(word)?))
 }
 
+/// The tag that one byte or two in hexadecimal are, or are to be.
+pub fn tag(word: &str) -> Result<u16, Unanswered> {
+    if word.len() == 2 {
+        let [low] = array::<1>(word)?;
+        return Ok(u16::from(low));
+    }
+    two_bytes(word)
+}
+
 /// Bytes as a word of an answer: in hexadecimal, `-` where there are none, and their number and
 /// SHA-256 where there are many.
 pub fn shown(alloc: Global, bytes: &[u8]) -> Answer {

@@ -1,5 +1,5 @@
 //! A command that the chip handled, as a moment of its own.
-use super::image;
+use super::{ACCESS, image};
 use eid_cells::MemoryEeprom;
 use eid_chip::{Chip, Handled};
 use eid_copro::{Coprocessor, ModelCoprocessor};
@@ -9,7 +9,7 @@ use std::test::Fail;
 #[test]
 fn a_handled_command_is_a_moment_with_the_text_of_a_trace(rt: HostRuntime) -> Result<(), Fail> {
     let alloc = rt.alloc();
-    let bytes = image(&rt, &[0x31, 0x00])?;
+    let bytes = image(&rt, ACCESS)?;
     assert!(rt; bytes.len() == 65_536);
     let mut cells = MemoryEeprom::new(bytes);
     let mut copro = ModelCoprocessor::new(alloc, 0);

@@ -9,5 +9,5 @@ returns-in-empty-clause-found c =
 
 pub returns-in-len1-clause-found : goal.returns-in-len1-clause-found
 returns-in-len1-clause-found c =
-    body_le_tail c.args.bytes.now c.split_at.result.0.now c.split_at.result.1.now c.args.lc c.expected.result c.split_at.ensures.by_index.0 (omega arith) (omega arith) (omega arith)
-    c.in-len1.len_at_least c.in-len1.len_below c.expected.ensures.value c.expected.ensures.range
+    body_le_tail c.args.bytes.now c.split_at.result.0.now c.split_at.result.1.now c.args.lc c.short_expected.result c.split_at.ensures.by_index.0 (omega arith) (omega arith) (omega arith)
+    c.in-len1.len_at_least c.in-len1.len_below c.short_expected.ensures.value c.short_expected.ensures.range

@@ -10,7 +10,7 @@ returns-in-empty-clause-found c = bare_tail c.args.bytes.now c.in-empty.len_belo
 
 pub returns-in-len1-clause-found : goal.returns-in-len1-clause-found
 returns-in-len1-clause-found c =
-    le_tail c.args.bytes.now c.expected.result c.in-len1.len_at_least c.in-len1.len_below c.expected.ensures.value c.expected.ensures.range
+    le_tail c.args.bytes.now c.short_expected.result c.in-len1.len_at_least c.in-len1.len_below c.short_expected.ensures.value c.short_expected.ensures.range
 
 pub returns-in-0-clause-refused : goal.returns-in-0-clause-refused
 returns-in-0-clause-refused c =

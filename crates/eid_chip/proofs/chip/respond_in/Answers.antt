@@ -1,61 +1,50 @@
 -- What was heard in a channel is what unwrap says.
-use Rattle.std.proofs.Common.{ap, refl, Some, None, []}
+use Rattle.std.proofs.Common.{ap, refl, Some, None}
 use Rattle.eid_base.specs.declared.codes.Rule.{Rule}
 use Rattle.eid_apdu.specs.Command.{plain_command}
 use Rattle.eid_apdu.specs.Answer.{plain_reply}
 use Rattle.eid_model.specs.Rules.{MissingObjects, WrongObjects, Command}
 use Rattle.eid_chip.specs.Held.{held}
 use Rattle.eid_chip.specs.States.{state}
-use Rattle.eid_chip.proofs.Outcomes.{hearing_refused, command_answered}
-use Rattle.eid_chip.proofs.Unasked.{not_asked}
+use Rattle.eid_chip.proofs.Outcomes.{hearing_refused, refused_responds, command_answered}
 use Rattle.eid_chip.proofs.chip.respond_in.Goals as goal
 
-pub returns-in-Err-Missing-clause-response : goal.returns-in-Err-Missing-clause-response
-returns-in-Err-Missing-clause-response g c =
-    let copro = g.C.Coprocessor in
+pub returns-in-Err-Missing-clause-responds : goal.returns-in-Err-Missing-clause-responds
+returns-in-Err-Missing-clause-responds g c =
     let kept = held (g.E.Eeprom.cells c.args.cells.now) in
-    record {
-      heard = MissingObjects;
-      hears = c.unwrap.ensures.missing.0 (cc);
-      is_plain = rw c.not_heard.ensures.plain refl;
-      asks = [];
-      were_asked = not_asked copro.log copro.spare copro.faults copro.told c.args.copro.now;
-      answers =
-          hearing_refused kept (state c.args.session (Some c.args.channel.now)) MissingObjects (record { rule = 2; status = 0x6987 }) c.not_heard.result.reaction (plain_reply c.not_heard.new.reply) refl refl
-          (ap (λ (r : Rule). r.0) c.not_heard.ensures.reaction.0) c.not_heard.ensures.reaction.1 (c.not_heard.ensures.left (Some c.args.channel.now));
-    }
+    let channel = Some c.args.channel.now in
+    refused_responds MissingObjects c.args.session channel c.args.bytes.now _ c.without_command.result.ending c.refused.result (plain_reply c.refused.new.reply) (g.C.Coprocessor.seen c.args.copro.now) c.args.store.now _ _ c.requires.mounted
+    (c.unwrap.ensures.missing.0 (cc)) refl (rw c.without_command.ensures.0 refl) c.without_command.ensures.1
+    (hearing_refused kept (state c.args.session channel) MissingObjects (record { rule = 2; status = 0x6987 }) c.refused.result (plain_reply c.refused.new.reply) refl refl
+    (ap (λ (r : Rule). r.0) c.refused.ensures.rule) c.refused.ensures.reply (c.refused.ensures.left channel))
 
-pub returns-in-Err-Wrong-clause-response : goal.returns-in-Err-Wrong-clause-response
-returns-in-Err-Wrong-clause-response g c =
-    let copro = g.C.Coprocessor in
+pub returns-in-Err-Wrong-clause-responds : goal.returns-in-Err-Wrong-clause-responds
+returns-in-Err-Wrong-clause-responds g c =
     let kept = held (g.E.Eeprom.cells c.args.cells.now) in
-    let refused = c.not_heard-in-Err-Wrong in
-    record {
-      heard = WrongObjects;
-      hears = (λ lacks. let missing = c.unwrap.ensures.missing.1 lacks in absurd (cc), λ d protected. absurd (c.in-Err-Wrong.ensures.only d protected));
-      is_plain = rw refused.ensures.plain refl;
-      asks = [];
-      were_asked = not_asked copro.log copro.spare copro.faults copro.told c.args.copro.now;
-      answers =
-          hearing_refused kept (state c.args.session (Some c.args.channel.now)) WrongObjects (record { rule = 3; status = 0x6988 }) refused.result.reaction (plain_reply refused.new.reply) refl refl
-          (ap (λ (r : Rule). r.0) refused.ensures.reaction.0) refused.ensures.reaction.1 (refused.ensures.left (Some c.args.channel.now));
-    }
+    let channel = Some c.args.channel.now in
+    let refused = c.refused-in-Err-Wrong in
+    let without = c.without_command-in-Err-Wrong in
+    refused_responds WrongObjects c.args.session channel c.args.bytes.now _ without.result.ending refused.result (plain_reply refused.new.reply) (g.C.Coprocessor.seen c.args.copro.now) c.args.store.now _ _ c.requires.mounted
+    (λ lacks. let missing = c.unwrap.ensures.missing.1 lacks in absurd (cc), λ d protected. absurd (c.in-Err-Wrong.ensures.only d protected)) refl (rw without.ensures.0 refl) without.ensures.1
+    (hearing_refused kept (state c.args.session channel) WrongObjects (record { rule = 3; status = 0x6988 }) refused.result (plain_reply refused.new.reply) refl refl
+    (ap (λ (r : Rule). r.0) refused.ensures.rule) refused.ensures.reply (refused.ensures.left channel))
 
-pub returns-clause-response : goal.returns-clause-response
-returns-clause-response g c =
-    let did = c.react.ensures.answers in
+pub returns-clause-responds : goal.returns-clause-responds
+returns-clause-responds g c =
+    let did = c.react.ensures.reacts in
     record {
       heard = Command (plain_command c.with_body-c.result);
       hears = rw (c.with_body-c.ensures, c.as_slice.ensures.value) c.in-Ok.ensures.found;
       is_plain = rw (c.with_body-c.ensures, c.as_slice.ensures.value) refl;
       asks = did.asks;
       were_asked = did.were_asked;
-      answers = did.answers (Some c.args.channel.now);
+      ended = did.ended (Some c.args.channel.now);
+      layout = did.layout;
     }
 
 pub returns-clause-channel : goal.returns-clause-channel
 returns-clause-channel g c =
-    let did = c.react.ensures.answers in
+    let did = c.react.ensures.reacts in
     let heard = plain_command c.with_body-c.result in
-    let others = command_answered (held (g.E.Eeprom.cells c.args.cells.now)) (state c.args.session None) heard did.asks c.react.result (plain_reply c.react.new.reply) (did.answers None) in
+    let others = command_answered (state c.args.session None) heard did.asks c.react.result (plain_reply c.react.new.reply) _ _ (did.ended None) in
     rw others (ap Some c.in-Ok.ensures.counted)

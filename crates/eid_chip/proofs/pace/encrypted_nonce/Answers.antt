@@ -17,7 +17,7 @@ use Rattle.eid_chip.proofs.pace.encrypted_nonce.Goals as goal
 pub returns-then-not-is_no_data-clause-told : goal.returns-then-not-is_no_data-clause-told
 returns-then-not-is_no_data-clause-told g c = record {
   asks = [];
-  were_asked = not_asked _ _ _ _ _;
+  were_asked = not_asked _;
   tells = λ channel. no_empty_body _ (state c.args.session channel) (plain_command c.args.c.now) c.refused.result (plain_reply c.refused.new.reply) (sym c.if-not-is_no_data.ensures) (record {
     rule = ap (λ (r : Rule). r.0) c.refused.ensures.rule;
     answered = c.refused.ensures.reply;

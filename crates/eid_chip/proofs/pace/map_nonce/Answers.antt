@@ -13,7 +13,7 @@ use Rattle.eid_chip.proofs.pace.map_nonce.Goals as goal
 pub returns-in_default-clause-told : goal.returns-in_default-clause-told
 returns-in_default-clause-told g c kept = record {
   asks = [];
-  were_asked = not_asked _ _ _ _ _;
+  were_asked = not_asked _;
   tells = λ channel. no_point_to_map kept (state c.args.session channel) (plain_command c.args.c.now) c.refused.result (plain_reply c.refused.new.reply) c.in_default.ensures.none (record {
     rule = ap (λ (r : Rule). r.0) c.refused.ensures.rule;
     answered = c.refused.ensures.reply;

@@ -8,7 +8,7 @@ use Rattle.eid_apdu.specs.Command.{plain_command}
 use Rattle.eid_model.specs.Rules.{is_card_access, file_of, offset_meant}
 use Rattle.eid_model.specs.Answers.{read_reply}
 use Rattle.eid_apdu.specs.Answer.{plain_reply}
-use Rattle.eid_model.specs.Sessions.{two_messages_later}
+use Rattle.eid_chip.specs.Transitions.{two_messages_later}
 use Rattle.eid_record.specs.declared.fields.FileNo.{FileNo}
 use Rattle.eid_chip.specs.declared.session.Session.{Session}
 use Rattle.eid_chip.specs.Held.{held, held_file}

@@ -5,7 +5,7 @@ use Rattle.std.specs.Str.{bytes_eq}
 use Rattle.eid_model.specs.declared.kind.Kind.TheVariants.{SelectMasterFile}
 use Rattle.eid_apdu.specs.Command.{plain_command}
 use Rattle.eid_apdu.specs.Answer.{plain_reply}
-use Rattle.eid_model.specs.Sessions.{two_messages_later}
+use Rattle.eid_chip.specs.Transitions.{two_messages_later}
 use Rattle.eid_chip.specs.declared.session.Session.{Session}
 use Rattle.eid_chip.specs.States.{state}
 use Rattle.eid_chip.proofs.CarriedOut.{carried, idle_state}

@@ -1,10 +1,12 @@
--- What the code is made of is the bytes of the token.
+-- What the MAC is made of is the bytes of the token.
 use Rattle.std.proofs.Common.{append-nil}
-use Rattle.eid_pace.proofs.Tokens.{token_spelled}
+use Rattle.eid_bits.specs.Identifiers.{known_bytes}
+use Rattle.eid_pace.proofs.Tokens.{token_spelled, short_identifier}
 use Rattle.eid_pace.proofs.keys.token.Goals as goal
 
 pub returns : goal.returns
-returns c =
-    let spelled = token_spelled c.args.point.now c.told-point in
-    let coded = rw append-nil at c.cmac-code.ensures in
+returns g c =
+    let spelled = token_spelled (known_bytes c.args.protocol) c.args.point.now (short_identifier c.args.protocol) c.told-point in
+    let is = c.bytes-identifier.ensures in
+    let coded = rw append-nil at c.cmac-mac.ensures in
     cc

@@ -1,38 +1,57 @@
 -- The run grows by what each line made.
 use Rattle.std.proofs.Common.{[], ◌+◌, Option, take, drop, map, refl, sym, subst, ap, ◌∙◌, arith, take_all, append-nil}
-use Rattle.std.specs.Prelude.{IsSome}
-use Rattle.eid_record.specs.Plain.{FullRecord}
+use Rattle.eid_base.specs.declared.codes.RunError.TheVariants.{SinkFault}
+use Rattle.eid_store.specs.Stands.{stands}
+use Rattle.eid_chip.specs.Fits.{IsSoundLife}
+use Rattle.eid_chip.specs.States.{Living}
 use Rattle.eid_script.specs.Scripts.{plain_line}
-use Rattle.eid_run.proofs.Running.{new_fits, new_sound, ran_taken, broke_off, taken_apart}
+use Rattle.eid_run.specs.Runs.{outside}
+use Rattle.eid_run.proofs.Running.{ran_lines, ran_taken, broke_off, taken_apart, holds_some, some_of}
 use Rattle.eid_run.proofs.run.run_script.Goals as goal
 
 pub loop-line-init : goal.loop-line-init
 loop-line-init g c = record {
   run = λ opening standing. record {
     happened = [];
-    fits = new_fits _ _ _ opening c.new-chip.ensures standing;
+    fits = c.new-chip.ensures.fits _ _ opening standing;
     legal = tt;
-    steady = λ one. tt;
+    steady = λ still. tt;
+    unplanned = λ told none unplanned. (tt, none);
+    later = omega arith;
+    same_told = refl;
+    dark = λ off is. off;
     carried = refl;
     logged = sym (append-nil _);
     written = λ told. sym (append-nil _);
   };
-  sound = new_sound c.new-chip.result _ _ c.new-chip.ensures;
-  stands = c.requires;
+  sound = subst (λ (l : Option Living). IsSoundLife l (g.E.Eeprom.device c.args.cells.now) (g.E.Eeprom.cells c.args.cells.now)) (sym c.new-chip.ensures.off) tt;
   layout = refl;
   told = refl;
   tells = refl;
-  later = omega arith;
+  still = refl;
 }
+
+pub run_line-requires-clause-stands : goal.run_line-requires-clause-stands
+run_line-requires-clause-stands g c =
+    let found = some_of (stands (g.E.Eeprom.cells c.args.cells.now)) c.requires in
+    holds_some _ _ _ (c.loop-line.invariant.run found.0 found.1).fits.standing
 
 pub returns-in-Err-clause-broke : goal.returns-in-Err-clause-broke
 returns-in-Err-clause-broke g c = λ opening standing.
     let seen = g.K.Sink.seen in
+    let copro = g.C.Coprocessor.seen in
+    let device = g.E.Eeprom.device in
+    let cells = g.E.Eeprom.cells in
     let lines = c.args.lines.now in
-    broke_off opening _ _ _ _ _ _ (map plain_line (take c.loop-line.line-index lines)) (plain_line c.line-item.result)
-    (map plain_line (drop (c.loop-line.line-index + 1) lines)) (map plain_line lines) (seen c.args.out.now) (seen c.loop-line.out) (seen c.run_line.new.out)
+    broke_off opening c.new-chip.result c.loop-line.chip c.run_line.new.chip
+    (outside (device c.args.cells.now) (cells c.args.cells.now) (copro c.args.copro.now) (seen c.args.out.now))
+    (outside (device c.loop-line.cells) (cells c.loop-line.cells) (copro c.loop-line.copro) (seen c.loop-line.out))
+    (outside (device c.run_line.new.cells) (cells c.run_line.new.cells) (copro c.run_line.new.copro) (seen c.run_line.new.out))
+    (map plain_line (take c.loop-line.line-index lines)) (plain_line c.line-item.result)
+    (map plain_line (drop (c.loop-line.line-index + 1) lines)) (map plain_line lines)
     (taken_apart lines c.loop-line.line-index c.line-item.result c.loop-line-test.true c.line-item.is)
-    c.loop-line.invariant.tells c.loop-line.invariant.layout (c.loop-line.invariant.run opening standing) c.in-Err.ensures.broke
+    c.loop-line.invariant.tells (c.run_line.ensures.told ∙ c.loop-line.invariant.told) c.loop-line.invariant.layout
+    (c.loop-line.invariant.run opening standing) c.in-Err.ensures.broke c.run_line.ensures.keeps
 
 pub loop-line-preserved : goal.loop-line-preserved
 loop-line-preserved g c =
@@ -40,17 +59,28 @@ loop-line-preserved g c =
     let lines = c.args.lines.now in
     record {
       run = λ opening standing. ran_taken opening _ _ _ _ _ _ lines c.loop-line.line-index c.line-item.result (seen c.args.out.now) (seen c.loop-line.out) (seen c.run_line.new.out)
-          c.loop-line-test.true c.line-item.is c.loop-line.invariant.tells c.loop-line.invariant.layout (c.loop-line.invariant.run opening standing) c.in_default.ensures.did;
-      sound = c.run_line.ensures.goes_on.sound;
-      stands = subst (λ (o : Option FullRecord). IsSome o) (sym c.run_line.ensures.goes_on.stands) c.loop-line.invariant.stands;
-      layout = c.run_line.ensures.goes_on.layout ∙ c.loop-line.invariant.layout;
+          c.loop-line-test.true c.line-item.is c.loop-line.invariant.tells (c.loop-line.invariant.run opening standing) c.in_default.ensures.did c.run_line.ensures.keeps;
+      sound = c.run_line.ensures.keeps.sound;
+      layout = c.run_line.ensures.keeps.layout ∙ c.loop-line.invariant.layout;
       told = c.run_line.ensures.told ∙ c.loop-line.invariant.told;
-      tells = c.run_line.ensures.tells ∙ c.loop-line.invariant.tells;
-      later = omega (arith, c.run_line.ensures.later, c.loop-line.invariant.later);
+      tells = c.run_line.ensures.sink.tells ∙ c.loop-line.invariant.tells;
+      still = c.run_line.ensures.sink.still (c.in_default.not-Err SinkFault) ∙ c.loop-line.invariant.still;
     }
 
 pub returns-clause-did : goal.returns-clause-did
 returns-clause-did g c = λ opening standing.
+    let seen = g.K.Sink.seen in
+    let copro = g.C.Coprocessor.seen in
+    let device = g.E.Eeprom.device in
+    let cells = g.E.Eeprom.cells in
     let run = c.loop-line.invariant.run opening standing in
     let whole = take_all c.loop-line.line-index c.args.lines.now c.loop-line-test.false in
-    record { happened = run.happened; legal = run.legal; steady = run.steady; carried = run.carried ∙ ap (map plain_line) whole; logged = run.logged; cells = run.fits.standing; written = run.written }
+    record {
+      happened = run.happened;
+      ran = ran_lines opening c.new-chip.result c.loop-line.chip
+          (outside (device c.args.cells.now) (cells c.args.cells.now) (copro c.args.copro.now) (seen c.args.out.now))
+          (outside (device c.loop-line.cells) (cells c.loop-line.cells) (copro c.loop-line.copro) (seen c.loop-line.out))
+          (map plain_line (take c.loop-line.line-index c.args.lines.now)) (seen c.args.out.now) (seen c.loop-line.out) run c.loop-line.invariant.told c.loop-line.invariant.layout;
+      carried = run.carried ∙ ap (map plain_line) whole;
+      written = run.written;
+    }

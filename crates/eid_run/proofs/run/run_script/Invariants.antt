@@ -1,26 +1,24 @@
-use Rattle.std.proofs.Common.{◌≡◌, ◌≤◌, Some, map, take}
-use Rattle.std.specs.Prelude.{IsSome, slice_index}
+use Rattle.std.proofs.Common.{◌≡◌, Some, map, take}
+use Rattle.std.specs.Prelude.{slice_index}
 use Rattle.eid_record.specs.Plain.{FullRecord}
 use Rattle.eid_store.specs.Stands.{stands}
-use Rattle.eid_chip.specs.Fits.{IsSound}
+use Rattle.eid_chip.specs.Fits.{IsSound, scene}
 use Rattle.eid_script.specs.Scripts.{plain_line}
-use Rattle.eid_run.specs.Runs.{scene, IsRunSoFar}
+use Rattle.eid_run.specs.Runs.{IsRunSoFar}
 use Rattle.eid_run.proofs.run.run_script.Given as goal
 
 -- the lines so far were carried out
 abbrev pub invariant-loop-line : goal.invariant-loop-line
 invariant-loop-line g l =
     let seen = g.K.Sink.seen in
-    let log = g.C.Coprocessor.log in
-    let told = g.C.Coprocessor.told in
+    let copro = g.C.Coprocessor.seen in
     let device = g.E.Eeprom.device in
     let cells = g.E.Eeprom.cells in
     record {
-      run : (opening : FullRecord) → stands (cells l.initial.cells) ≡ Some opening → IsRunSoFar opening (scene l.initial.chip (device l.initial.cells) (cells l.initial.cells)) (scene l.chip (device l.cells) (cells l.cells)) (log l.initial.copro) (log l.copro) (map plain_line (take l.line-index l.lines)) (seen l.initial.out) (seen l.out);
-      sound : IsSound l.chip (device l.cells) (cells l.cells);
-      stands : IsSome (stands (cells l.cells));
+      run : (opening : FullRecord) → stands (cells l.initial.cells) ≡ Some opening → IsRunSoFar opening (scene l.initial.chip (device l.initial.cells) (cells l.initial.cells)) (scene l.chip (device l.cells) (cells l.cells)) (copro l.initial.copro).log (copro l.copro).log (map plain_line (take l.line-index l.lines)) (seen l.initial.out) (seen l.out);
+      sound : IsSound (scene l.chip (device l.cells) (cells l.cells));
       layout : slice_index (cells l.cells) 0 ≡ slice_index (cells l.initial.cells) 0;
-      told : told l.copro ≡ told l.initial.copro;
+      told : (copro l.copro).told ≡ (copro l.initial.copro).told;
       tells : (seen l.out).tells ≡ (seen l.initial.out).tells;
-      later : (seen l.initial.out).faults ≤ (seen l.out).faults;
+      still : (seen l.out).faults ≡ (seen l.initial.out).faults;
     }

@@ -1,7 +1,8 @@
-use Rattle.std.proofs.Common.{◌∙◌, refl}
-use Rattle.eid_sm.proofs.Ends.{differ, after_before}
+use Rattle.eid_sm.proofs.Ends.{stripped, stripped_only}
 use Rattle.eid_sm.proofs.reading.without_end.Goals as goal
 
-pub returns-else-eq-clause-only : goal.returns-else-eq-clause-only
-returns-else-eq-clause-only c = λ before e.
-    differ c.split_at.result.1.now c.args.end.now (c.if-eq.ensures) (c.split_at.ensures.back ∙ after_before c.args.bytes.now before c.args.end.now _ e refl)
+pub returns-clause-found : goal.returns-clause-found
+returns-clause-found c = stripped (λ r. r.now) c.args.bytes.now c.args.end.now c.strip_suffix.result c.strip_suffix.ensures.cases
+
+pub returns-clause-only : goal.returns-clause-only
+returns-clause-only c = stripped_only (λ r. r.now) c.args.bytes.now c.args.end.now c.strip_suffix.result c.strip_suffix.ensures.cases

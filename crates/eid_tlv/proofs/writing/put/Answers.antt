@@ -8,7 +8,7 @@ pub returns-then-remaining_capacity-len-clause-full :
 returns-then-remaining_capacity-len-clause-full g c =
     let tag = tag_bytes c.args.tag in
     let size = length_bytes (length c.args.value.now) in
-    let head : length c.head_of-head.result.items ≡ length tag + length size = ap length c.head_of-head.ensures ∙ length-append tag size in
+    let head : length c.head-head.result.items ≡ length tag + length size = ap length c.head-head.ensures ∙ length-append tag size in
     let whole = object_size c.args.tag c.args.value.now in
     (λ is. omega arith, λ over. refl)
 
@@ -16,6 +16,6 @@ pub returns-clause-full : goal.returns-clause-full
 returns-clause-full g c =
     let tag = tag_bytes c.args.tag in
     let size = length_bytes (length c.args.value.now) in
-    let head : length c.head_of-head.result.items ≡ length tag + length size = ap length c.head_of-head.ensures ∙ length-append tag size in
+    let head : length c.head-head.result.items ≡ length tag + length size = ap length c.head-head.ensures ∙ length-append tag size in
     let whole = object_size c.args.tag c.args.value.now in
     (λ is. cc, λ over. absurd (omega arith))

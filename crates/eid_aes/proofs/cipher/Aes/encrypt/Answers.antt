@@ -3,7 +3,7 @@ use Rattle.eid_aes.proofs.RoundFacts.{after_rounds_none, after_rounds_more, ciph
 use Rattle.eid_aes.proofs.cipher.Aes.encrypt.Goals as goal
 
 pub loop-round-init : goal.loop-round-init
-loop-round-init g c = rw (after_rounds_none c.self.inside.schedule c.args.block.now) (rw c.columns_of.ensures at c.added-s.ensures)
+loop-round-init g c = rw (after_rounds_none c.self.inside.schedule c.args.block.now) (rw c.columns_of.ensures at c.add_round_key-s.ensures)
 
 pub loop-round-preserved : goal.loop-round-preserved
 loop-round-preserved g c =

@@ -1,45 +1,50 @@
--- The chip responded, and keeps its store, the new session and the channel.
-use Rattle.std.proofs.Common.{◌≡◌, sym, ◌∙◌, ap, refl, [], Option, None}
-use Rattle.std.specs.Prelude.{if◌then◌else◌}
+-- The chip answered, and keeps its store, the new session and the channel; or it was lost in a commit, and is off.
+use Rattle.std.proofs.Common.{◌≡◌, sym, ◌∙◌, ap, Option, Some, None}
+use Rattle.std.specs.Prelude.{option_map, if◌then◌else◌}
 use Rattle.std.specs.Option.{option_or}
 use Rattle.eid_apdu.specs.Answer.{plain_reply}
 use Rattle.eid_sm.specs.Keys.{ChannelState}
 use Rattle.eid_model.specs.Moments.{ends_session_by}
-use Rattle.eid_chip.specs.Steps.{heard_in, sent_next}
-use Rattle.eid_chip.proofs.Chips.{chip_responds, silent_follows, sent_so, kept_channel}
-use Rattle.eid_chip.proofs.Unasked.{not_asked}
+use Rattle.eid_chip.specs.declared.reaction.Ending.{Ending}
+use Rattle.eid_chip.specs.Commits.{world}
+use Rattle.eid_chip.specs.States.{ChipView, living}
+use Rattle.eid_chip.specs.Steps.{heard_in, sent_next, rule_of}
+use Rattle.eid_chip.proofs.Chips.{handles_answer, handles_loss, handles_silence, sent_so, kept_channel}
 use Rattle.eid_chip.proofs.chip.Chip.handle_in.Goals as goal
 
 pub returns-in_default-clause-handles : goal.returns-in_default-clause-handles
 returns-in_default-clause-handles g c =
-    let copro = g.C.Coprocessor in
-    record {
-      asks = [];
-      were_asked = not_asked copro.log copro.spare copro.faults copro.told c.args.copro.now;
-      unasked = λ silent. refl;
-      follows =
-          silent_follows c.args.self.now (record { life = c.replace.new.dest }) (g.E.Eeprom.device c.args.cells.now) (g.E.Eeprom.cells c.args.cells.now) c.args.bytes.now
-          (sym c.replace.ensures.value ∙ c.in_default.is) c.replace.ensures.after;
-    }
+    let off : c.args.self.now.life ≡ None =
+    ap (λ (v : ChipView). v.life) (sym c.self.view_is) ∙ ap (option_map living) (sym c.replace.ensures.value ∙ c.in_default.is) in
+    handles_silence c.args.self.now (option_map living c.replace.new.dest) c.args.bytes.now _ _ _ off (ap (option_map living) c.replace.ensures.after)
 
-pub returns-clause-handles : goal.returns-clause-handles
-returns-clause-handles g c =
-    let did = c.respond_any-plain.ensures.response in
+pub returns-in-Answered-clause-handles : goal.returns-in-Answered-clause-handles
+returns-in-Answered-clause-handles g c =
     let running = c.in-Some.running in
-    let r = c.respond_any-plain.result.reaction in
+    let r = c.in-Answered.reaction in
     let said = plain_reply c.respond_any-plain.new.exchange.answer in
-    let heard : c.respond_any-plain.new.channel ≡ heard_in r.rule.0 running.channel = c.respond_any-plain.ensures.channel in
-    let written : c.send.new.out.items ≡ _ =
-    c.send.ensures.sent ∙ ap (λ (ch : Option ChannelState). sent_next ch r.rule.0 said) heard ∙ sent_so running.channel r.rule.0 said in
-    let kept : c.channel_after.result ≡ _ =
-    c.channel_after.ensures
-    ∙ ap (λ (ch : Option ChannelState). if ends_session_by r.rule.0 then None else option_or r.opened ch) (c.send.ensures.channel ∙ ap (heard_in r.rule.0) heard)
+    let was = world (g.C.Coprocessor.seen c.args.copro.now) running.store (g.E.Eeprom.device c.args.cells.now) (g.E.Eeprom.cells c.args.cells.now) in
+    let now = world (g.C.Coprocessor.seen c.respond_any-plain.new.copro) c.respond_any-plain.new.store (g.E.Eeprom.device c.respond_any-plain.new.cells) (g.E.Eeprom.cells c.respond_any-plain.new.cells) in
+    let alive : c.args.self.now.life ≡ Some (living running) =
+    ap (λ (v : ChipView). v.life) (sym c.self.view_is) ∙ ap (option_map living) (sym c.replace.ensures.value ∙ c.in-Some.is) in
+    let heard : c.respond_any-plain.new.channel ≡ heard_in r.rule.0 running.channel =
+    c.respond_any-plain.ensures.channel ∙ ap (λ (e : Ending). heard_in (rule_of e) running.channel) c.in-Answered.is in
+    let written : c.go_on.new.exchange.sent.items ≡ _ =
+    c.go_on.ensures.sent ∙ ap (λ (ch : Option ChannelState). sent_next ch r.rule.0 said) heard ∙ sent_so running.channel r.rule.0 said in
+    let kept : c.go_on.result.channel ≡ _ =
+    c.go_on.ensures.channel
+    ∙ ap (λ (ch : Option ChannelState). if ends_session_by r.rule.0 then None else option_or r.opened (heard_in r.rule.0 ch)) heard
     ∙ kept_channel running.channel r.opened r.rule.0 in
-    record {
-      asks = did.asks;
-      were_asked = did.were_asked;
-      unasked = λ silent. absurd (cc);
-      follows =
-          chip_responds c.args.self.now running (g.E.Eeprom.device c.args.cells.now) (g.E.Eeprom.cells c.args.cells.now) c.args.bytes.now did.heard _ did.asks r said
-          c.send.new.out.items c.channel_after.result (sym c.replace.ensures.value ∙ c.in-Some.is) written kept did.hears did.is_plain did.answers;
-    }
+    rw (c.go_on.ensures.said.0, c.go_on.ensures.said.1)
+    (handles_answer c.args.self.now running c.go_on.result c.args.bytes.now _ c.respond_any-plain.result.ending r c.in-Answered.finished said c.go_on.new.exchange.sent.items was now
+    alive c.respond_any-plain.ensures.responds c.in-Answered.is c.go_on.ensures.session.0 c.go_on.ensures.session.1 kept written)
+
+pub returns-in-Lost-clause-handles : goal.returns-in-Lost-clause-handles
+returns-in-Lost-clause-handles g c =
+    let running = c.in-Some.running in
+    let alive : c.args.self.now.life ≡ Some (living running) =
+    ap (λ (v : ChipView). v.life) (sym c.self.view_is) ∙ ap (option_map living) (sym c.replace.ensures.value ∙ c.in-Some.is) in
+    let was = world (g.C.Coprocessor.seen c.args.copro.now) running.store (g.E.Eeprom.device c.args.cells.now) (g.E.Eeprom.cells c.args.cells.now) in
+    let now = world (g.C.Coprocessor.seen c.respond_any-plain.new.copro) c.respond_any-plain.new.store (g.E.Eeprom.device c.respond_any-plain.new.cells) (g.E.Eeprom.cells c.respond_any-plain.new.cells) in
+    handles_loss c.args.self.now running (option_map living c.replace.new.dest) c.args.bytes.now _ c.respond_any-plain.result.ending c.in-Lost.finished
+    (plain_reply c.respond_any-plain.new.exchange.answer) was now alive c.respond_any-plain.ensures.responds c.in-Lost.is (ap (option_map living) c.replace.ensures.after)

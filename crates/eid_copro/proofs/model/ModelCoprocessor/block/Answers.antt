@@ -2,7 +2,7 @@ use Rattle.std.proofs.Common.{◌≡◌, ℕ, List, ◌++◌, ap, ◌∙◌}
 use Rattle.std.specs.Int.{w64, to_be_bytes}
 use Rattle.sha2.specs.Sha256.{sha256}
 use Rattle.eid_copro.specs.Model.{random_block, blocks_drawn}
-use Rattle.eid_copro.specs.ModelSeen.{model_log}
+use Rattle.eid_copro.specs.ModelSeen.{model_seen}
 use Rattle.eid_copro.proofs.model.ModelCoprocessor.block.Goals as goal
 
 is_block : (start drawn number : ℕ) (first second result : List ℕ) → result ≡ sha256 (first ++ second) → first ≡ to_be_bytes w64 start
@@ -14,5 +14,5 @@ is_block start drawn number first second result is first_is second_is same =
 pub returns : goal.returns
 returns c =
     let model = c.args.self.now in
-    is_block model.start model.drawn (blocks_drawn (model_log model)) c.to_be_bytes.result c.to_be_bytes-2.result c.digest.result
+    is_block model.start model.drawn (blocks_drawn (model_seen model).log) c.to_be_bytes.result c.to_be_bytes-2.result c.digest.result
     c.digest.ensures c.to_be_bytes.ensures c.to_be_bytes-2.ensures model.counted

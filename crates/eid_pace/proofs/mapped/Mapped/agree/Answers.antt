@@ -1,7 +1,7 @@
 -- The end that each return is.
 use Rattle.std.proofs.Common.{refl, sym}
 use Rattle.eid_pace.specs.AgreeEnds.{SamePoint, NoAgreement, NoSecret, Shared}
-use Rattle.eid_pace.proofs.Asks.{asked_once, asked_twice}
+use Rattle.eid_copro.proofs.Asking.{asked_once, asked_twice}
 use Rattle.eid_pace.proofs.mapped.Mapped.agree.Goals as goal
 
 pub returns-then-eq : goal.returns-then-eq

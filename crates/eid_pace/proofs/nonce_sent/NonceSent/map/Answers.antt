@@ -1,7 +1,7 @@
 -- The end that each return is.
 use Rattle.std.proofs.Common.{refl}
 use Rattle.eid_pace.specs.MapEnds.{NoMapping, NoBase, Based}
-use Rattle.eid_pace.proofs.Asks.{asked_twice}
+use Rattle.eid_copro.proofs.Asking.{asked_twice}
 use Rattle.eid_pace.proofs.nonce_sent.NonceSent.map.Goals as goal
 
 pub returns-in_default-map : goal.returns-in_default-map

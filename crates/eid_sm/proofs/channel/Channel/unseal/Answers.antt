@@ -1,20 +1,20 @@
 use Rattle.std.proofs.Common.{◌≡◌, List, ℕ, refl, ap, ◌∙◌, subst}
 use Rattle.eid_sm.specs.Keys.{counter_bytes, next_counter}
-use Rattle.eid_sm.specs.Replies.{HasNoCode}
-use Rattle.eid_sm.proofs.SealedFacts.{is_sealed, is_bare, sealed_has_code}
+use Rattle.eid_sm.specs.Replies.{HasNoMac}
+use Rattle.eid_sm.proofs.SealedFacts.{is_sealed, is_bare, sealed_has_mac}
 use Rattle.eid_sm.proofs.channel.Channel.unseal.Goals as goal
 
-pub returns-then-has_no_code-clause-only : goal.returns-then-has_no_code-clause-only
-returns-then-has_no_code-clause-only c = λ r is.
+pub returns-then-has_no_mac-clause-only : goal.returns-then-has_no_mac-clause-only
+returns-then-has_no_mac-clause-only c = λ r is.
     let state = c.args.self.now in
     let split = c.in-Some.ensures.only _ r.status is.written in
-    absurd (sealed_has_code state.keys.enc state.keys.mac (counter_bytes (next_counter state.counter)) r.content r.status is.reply.content
-    (subst (λ (s : List ℕ). HasNoCode s) split.0 (c.has_no_code.ensures.0 c.if-has_no_code.true)))
+    absurd (sealed_has_mac state.keys.enc state.keys.mac (counter_bytes (next_counter state.counter)) r.content r.status is.reply.content
+    (subst (λ (s : List ℕ). HasNoMac s) split.0 (c.has_no_mac.ensures.0 c.if-has_no_mac.true)))
 
-pub returns-then-has_no_code-clause-missing : goal.returns-then-has_no_code-clause-missing
-returns-then-has_no_code-clause-missing c = (
+pub returns-then-has_no_mac-clause-missing : goal.returns-then-has_no_mac-clause-missing
+returns-then-has_no_mac-clause-missing c = (
   λ same. is_bare c.args.bytes.now c.in-Some.objects.now c.in-Some.status c.in-Some.ensures.found c.in-Some.ensures.range c.if-objects-le-MAX_CONTENT.true
-      (c.has_no_code.ensures.0 c.if-has_no_code.true),
+      (c.has_no_mac.ensures.0 c.if-has_no_mac.true),
   λ bare. refl,
 )
 

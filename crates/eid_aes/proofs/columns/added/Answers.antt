@@ -1,5 +1,0 @@
-use Rattle.eid_aes.proofs.ColumnFacts.{added_state}
-use Rattle.eid_aes.proofs.columns.added.Goals as goal
-
-pub returns : goal.returns
-returns c = added_state c.args.s c.args.schedule.now c.args.round _ _ _ _ c.column_at.ensures c.column_at-2.ensures c.column_at-3.ensures c.column_at-4.ensures

@@ -1,0 +1,42 @@
+-- What one command does to the state of a chip. Legality does not speak of it: that it is what a look back over the
+-- moments finds is proved.
+use Rattle.std.specs.Prelude.{ℕ, ◌==◌, List, Option, Some, None, is_some, option_map, unwrap_or, if◌then◌else◌}
+use Rattle.std.specs.Option.{option_or}
+use Rattle.eid_apdu.specs.Command.{PlainCommand}
+use Rattle.eid_copro.specs.declared.ask.Answer.{Answer}
+use Rattle.eid_sm.specs.Keys.{ChannelState, next_counter}
+use Rattle.eid_model.specs.declared.kind.Kind.{Kind}
+use Rattle.eid_model.specs.Kinds.{step_after}
+use Rattle.eid_model.specs.Runs.{Idle, entered}
+use Rattle.eid_model.specs.Sessions.{State, selects, names, pace_done, memory_of, keys_of, channel_after}
+
+-- a command and its reply raise the send sequence counter twice
+abbrev pub two_messages_later : ChannelState → ChannelState
+two_messages_later ch = record { keys = ch.keys; counter = next_counter (next_counter ch.counter) }
+
+-- the state after a command of this kind was carried out, with these answers of the coprocessor
+abbrev pub state_carried_out : Kind → PlainCommand → List Answer → State → State
+state_carried_out kind c answers old = record {
+  next = step_after kind;
+  phase = entered kind c answers old.phase;
+  selected = unwrap_or (selects kind) old.selected;
+  current = if is_some (selects kind) then None else option_or (names kind c) old.current;
+  pace = option_or (option_map memory_of (pace_done kind old.phase)) old.pace;
+  channel = option_or (option_map (channel_after 0) (option_map keys_of (pace_done kind old.phase))) (option_map two_messages_later old.channel);
+}
+
+-- the state after a command that was refused, and did not end the session
+abbrev pub state_refused : State → State
+state_refused old = record {
+  next = None;
+  phase = Idle;
+  selected = old.selected;
+  current = old.current;
+  pace = old.pace;
+  channel = option_map two_messages_later old.channel;
+}
+
+-- the state after a command that was answered by this rule, with these answers of the coprocessor
+abbrev pub state_answered : ℕ → Option Kind → PlainCommand → List Answer → State → State
+state_answered rule None c answers old = state_refused old
+state_answered rule (Some kind) c answers old = if rule == 0 then state_carried_out kind c answers old else state_refused old

@@ -1,5 +1,0 @@
-use Rattle.eid_cmac.proofs.PaddingFacts.{padding-take}
-use Rattle.eid_cmac.proofs.padding.padding.Goals as goal
-
-pub returns : goal.returns
-returns c = padding-take c.args.size

@@ -1,0 +1,43 @@
+-- One question, and a question after a pair, as several.
+use Rattle.std.proofs.Common.{◌≡◌, ℕ, ◌||◌, true, false, List, [], ◌∷◌, ◌++◌, refl, ◌∙◌, ap, append_assoc, arith}
+use Rattle.eid_base.specs.Faults.{Rose}
+use Rattle.eid_copro.specs.Asked.{Asked}
+use Rattle.eid_copro.specs.Seen.{CoproSeen}
+use Rattle.eid_copro.specs.declared.ask.Ask.{Ask}
+use Rattle.eid_copro.specs.declared.ask.Question.{Question}
+use Rattle.eid_copro.specs.declared.ask.Answer.{Answer}
+use Rattle.eid_copro.specs.declared.ask.Answer.TheVariants as answers
+use Rattle.eid_copro.specs.Asking.{WereAsked, is_fault}
+
+-- an answer that is a fault, and no answer after it
+met : (answer : Answer) → is_fault answer || false ≡ true → answer ≡ answers.Fault
+met (answers.Nonce nonce) h = cc
+met (answers.Challenge challenge) h = cc
+met (answers.Pair secret public) h = cc
+met (answers.Mapped base) h = cc
+met (answers.Shared shared) h = cc
+met answers.NoPoint h = cc
+met (answers.Verdict verdict) h = cc
+met (answers.Signed signature) h = cc
+met answers.Fault h = refl
+
+pub asked_once : {old new : CoproSeen} {question : Question} {answer : Answer} → Asked old new question answer
+    → WereAsked old new (record { question = question; answer = answer } ∷ [])
+asked_once {answer = answer} h = record {
+  logged = h.logged;
+  spent = h.spent;
+  same_told = h.same_told;
+  later = h.later;
+  cause = λ e. h.cause (met answer e);
+}
+
+pub asked_twice : {old between new : CoproSeen} {first second : Question} {secret public : List ℕ} {answer : Answer}
+    → Asked old between first (answers.Pair secret public) → Asked between new second answer
+    → WereAsked old new (record { question = first; answer = answers.Pair secret public } ∷ record { question = second; answer = answer } ∷ [])
+asked_twice {old = old} {new = new} {second = second} {answer = answer} h k = record {
+  logged = k.logged ∙ ap (λ (asks : List Ask). asks ++ record { question = second; answer = answer } ∷ []) h.logged ∙ append_assoc old.log _ _;
+  spent = omega (arith, h.spent, k.spent);
+  same_told = k.same_told ∙ h.same_told;
+  later = omega (arith, h.later, k.later);
+  cause = λ e. let rose = k.cause (met answer e) in let goal : Rose old.faults new.faults = omega (arith, rose, h.later) in goal;
+}
