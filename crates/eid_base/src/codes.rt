@@ -29,7 +29,7 @@ impl<T: Drop> From<AllocFailed<T>> for NoMemory {
 pub struct Full;
 
 /// Why a run of a script or of a session broke off.
-#[derive(Clone, Copy, Debug, PartialEq, Eq, Hash)]
+#[derive(Clone, Copy)]
 pub enum RunError {
     /// The sink failed.
     SinkFault,

@@ -8,8 +8,6 @@ mod outside;
 mod points;
 mod real;
 mod replacing;
-#[cfg(test)]
-mod tests;
 mod transfer;
 
 pub use codes::{Full, NoMemory, Rule, RunError, Status};

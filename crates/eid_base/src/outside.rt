@@ -6,7 +6,7 @@ ghost use Rattle.eid_base.specs.Seen.{FolderSeen, SinkSeen, SameFiles, SameOther
 use std::alloc::Global;
 
 /// Why a folder or a sink did not do what it was asked.
-#[derive(Clone, Copy, Debug, PartialEq, Eq, Hash)]
+#[derive(Clone, Copy)]
 pub enum IoError {
     /// The folder tells its content, and has no file of this name.
     Absent,

@@ -5,16 +5,16 @@ ghost use Rattle.eid_cells.specs.Device.{Device, planned_at, WasCut, written_onc
 use crate::tear::Tear;
 
 /// The power was cut while a write was under way.
-#[derive(Clone, Copy, Debug, PartialEq, Eq, Hash)]
+#[derive(Clone, Copy)]
 pub struct Cut;
 
 /// A device of 65,536 cells of a byte each, in pages of 64. Its power may be cut in a write, and
 /// then only the range that was being written may differ.
 pub trait Eeprom {
-    // From place 0 on.
+    /// The byte of each cell, from place 0 on.
     ghost cells: { Self → List ℕ };
 
-    // Power, plan and count of cuts.
+    /// Power, plan and count of cuts.
     ghost device: { Self → Device };
 
     /// Whether the device has power.
@@ -50,12 +50,12 @@ pub trait Eeprom {
         ensures cells { cells self.new ≡ cells self.old }
         ensures device { device self.new ≡ planned_at write (device self.old) };
 
-    // There are 65,536 cells.
+    /// There are 65,536 cells.
     ghost count: { (x : Self) → length (cells x) ≡ 65536 };
 
-    // Each of them is a byte.
+    /// Each of them is a byte.
     ghost bytes: { (x : Self) (place : ℕ) → slice_index (cells x) place < 256 };
 
-    // A plan that is not told is seen as none.
+    /// A plan that is not told is seen as none.
     ghost untold: { (x : Self) → (device x).told ≡ false → (device x).planned ≡ 0 };
 }

@@ -9,6 +9,3 @@ mod tear;
 pub use eeprom::{Cut, Eeprom};
 pub use memory::MemoryEeprom;
 pub use tear::Tear;
-
-#[cfg(test)]
-mod tests;

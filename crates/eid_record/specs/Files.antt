@@ -1,9 +1,8 @@
 -- The bytes of a record: its fixed bytes, and then those of the files that are there, in the order of their numbers.
 use Rattle.std.specs.Prelude.{ℕ, ◌+◌, List, [], ◌∷◌, ◌++◌, take, drop, Option, Some, None, Result, Ok, Err, slice_index_or, slice_range}
 use Rattle.std.specs.Option.{option_map}
-use Rattle.eid_record.specs.declared.layout.TheConstants.{FIXED}
 use Rattle.eid_record.specs.Plain.{PlainRecord, FullRecord}
-use Rattle.eid_record.specs.Layout.{fixed_bytes}
+use Rattle.eid_record.specs.Layout.{fixed_size, fixed_bytes}
 use Rattle.eid_record.specs.Reading.{record_in, size}
 
 -- how many bytes files of these lengths have together
@@ -34,7 +33,7 @@ full_read (Err place) bytes = None
 
 -- the full record that these bytes spell, whatever stands behind it; none where a field is refused
 unfoldable pub full_in : List ℕ → Option FullRecord
-full_in bytes = full_read (record_in (take FIXED bytes)) (drop FIXED bytes)
+full_in bytes = full_read (record_in (take fixed_size bytes)) (drop fixed_size bytes)
 
 -- the bytes of a full record, as they are written
 abbrev pub full_bytes : FullRecord → List ℕ

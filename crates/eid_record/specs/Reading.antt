@@ -3,7 +3,7 @@ use Rattle.std.specs.Prelude.{◌≡◌, ℕ, zero, suc, ◌+◌, Bool, ◌&&◌
 use Rattle.std.specs.List.{list_all}
 use Rattle.std.specs.Int.{w16, w32, from_be_bytes}
 use Rattle.eid_bits.specs.Date.{is_between, is_date}
-use Rattle.eid_record.specs.declared.layout.TheConstants.{NUMBER, TRIES, UNBLOCKS, ACTIVE, PIN, CAN, PUK, DATE, CURRENT, PREVIOUS, CA_SECRET, RI_SECRET, LENGTHS, NAME, TEMPLATE, KEY, PRESENT, ABSENT}
+use Rattle.eid_record.specs.Layout.{number_place, tries_place, unblocks_place, active_place, pin_place, can_place, puk_place, date_place, current_place, previous_place, ca_secret_place, ri_secret_place, lengths_place, name_place, template_place, key_place, present_place, absent}
 use Rattle.eid_record.specs.declared.reading.BadRecord.{BadRecord}
 use Rattle.eid_record.specs.Plain.{PlainTrustPoint, PlainRecord}
 
@@ -40,15 +40,15 @@ date_at place fixed = if is_date (bytes_from 6 place fixed) then Ok (bytes_from 
 -- a trust point that is there: a name of 1 to 16 bytes, and a key that begins with 04
 abbrev pub is_trust_point_at : ℕ → List ℕ → Bool
 is_trust_point_at place fixed =
-    (slice_index fixed (place + PRESENT) == 1)
+    (slice_index fixed (place + present_place) == 1)
     && is_between 1 16 (slice_index fixed place)
-    && (slice_index fixed (place + KEY) == 4)
+    && (slice_index fixed (place + key_place) == 4)
 
 abbrev pub trust_point_of : ℕ → List ℕ → PlainTrustPoint
 trust_point_of place fixed = record {
-  name = bytes_from (slice_index fixed place) (place + NAME) fixed;
-  template = bytes_from 5 (place + TEMPLATE) fixed;
-  key = bytes_from 65 (place + KEY) fixed;
+  name = bytes_from (slice_index fixed place) (place + name_place) fixed;
+  template = bytes_from 5 (place + template_place) fixed;
+  key = bytes_from 65 (place + key_place) fixed;
 }
 
 unfoldable pub trust_point_at : ℕ → List ℕ → Result PlainTrustPoint ℕ
@@ -58,7 +58,7 @@ trust_point_at place fixed =
 -- of one that is absent nothing else is read
 unfoldable pub optional_point_at : ℕ → List ℕ → Result (Option PlainTrustPoint) ℕ
 optional_point_at place fixed =
-    if slice_index fixed (place + PRESENT) == 0 then Ok None else do
+    if slice_index fixed (place + present_place) == 0 then Ok None else do
       t ← trust_point_at place fixed
       Ok (Some t)
 
@@ -70,7 +70,7 @@ size (Some n) = n
 -- a length, where those before it have this sum
 unfoldable pub length_at : ℕ → ℕ → ℕ → Result (Option ℕ) ℕ
 length_at place sum n =
-    if n == ABSENT then Ok None
+    if n == absent then Ok None
     else if nat_le n 2048 && nat_le (sum + n) 24000 then Ok (Some n) else Err place
 
 -- so many lengths from this place on, where those before them have this sum
@@ -84,17 +84,17 @@ lengths_from (suc count) place sum fixed = do
 -- tries, unblockings, and whether the PIN is active
 unfoldable pub counters_in : List ℕ → Result (ℕ × ℕ × Bool) ℕ
 counters_in fixed = do
-  tries ← at_most 3 TRIES fixed
-  unblocks ← at_most 10 UNBLOCKS fixed
-  active ← at_most 1 ACTIVE fixed
+  tries ← at_most 3 tries_place fixed
+  unblocks ← at_most 10 unblocks_place fixed
+  active ← at_most 1 active_place fixed
   Ok (tries, unblocks, active == 1)
 
 -- PIN, CAN and PUK
 unfoldable pub passwords_in : List ℕ → Result (List ℕ × List ℕ × List ℕ) ℕ
 passwords_in fixed = do
-  pin ← digits_at 6 PIN fixed
-  can ← digits_at 6 CAN fixed
-  puk ← digits_at 10 PUK fixed
+  pin ← digits_at 6 pin_place fixed
+  can ← digits_at 6 can_place fixed
+  puk ← digits_at 10 puk_place fixed
   Ok (pin, can, puk)
 
 -- the record, its fields read in the order of their places
@@ -102,12 +102,12 @@ unfoldable pub record_in : List ℕ → Result PlainRecord ℕ
 record_in fixed = do
   counters ← counters_in fixed
   passwords ← passwords_in fixed
-  date ← date_at DATE fixed
-  current ← trust_point_at CURRENT fixed
-  previous ← optional_point_at PREVIOUS fixed
-  lengths ← lengths_from 23 LENGTHS 0 fixed
+  date ← date_at date_place fixed
+  current ← trust_point_at current_place fixed
+  previous ← optional_point_at previous_place fixed
+  lengths ← lengths_from 23 lengths_place 0 fixed
   Ok (record {
-    number = from_be_bytes w32 (bytes_from 4 NUMBER fixed);
+    number = from_be_bytes w32 (bytes_from 4 number_place fixed);
     tries = counters.0;
     unblocks = counters.1;
     active = counters.2;
@@ -117,7 +117,7 @@ record_in fixed = do
     date = date;
     current = current;
     previous = previous;
-    ca_secret = bytes_from 32 CA_SECRET fixed;
-    ri_secret = bytes_from 32 RI_SECRET fixed;
+    ca_secret = bytes_from 32 ca_secret_place fixed;
+    ri_secret = bytes_from 32 ri_secret_place fixed;
     lengths = lengths;
   })

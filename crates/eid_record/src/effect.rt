@@ -1,15 +1,14 @@
-ghost use Rattle.std.specs.Prelude.{◌≡◌, ◌≤◌, length};
+ghost use Rattle.std.specs.Prelude.{◌≡◌};
 ghost use Rattle.eid_record.specs.Effect.{CanApply, applied};
 ghost use Rattle.eid_record.specs.EffectView.{effect_view};
-ghost use Rattle.eid_record.specs.Valid.{IsShaped, IsValid};
-ghost use Rattle.eid_record.specs.View.{trust_point_view, record_view};
+ghost use Rattle.eid_record.specs.Valid.{IsValid};
+ghost use Rattle.eid_record.specs.View.{record_view};
 
 use crate::fields::{FileNo, Record, TrustPoint};
-use arrayvec::ArrayVec;
 use eid_bits::Date6;
 
 /// What a commit changes.
-#[derive(Debug, Drop)]
+#[derive(Drop)]
 pub enum Effect<'a> {
     /// Takes one try of the PIN; one must be left.
     Spend,
@@ -17,6 +16,7 @@ pub enum Effect<'a> {
     Refill,
     /// Sets 3 tries, and by the PUK takes one unblocking, of which one must then be left.
     Unblock {
+        /// Whether the PUK did it, and no terminal with the right to.
         by_puk: bool,
     },
     /// Sets the PIN, six ASCII digits.
@@ -27,14 +27,20 @@ pub enum Effect<'a> {
     Active(bool),
     /// Sets the date and the trust points, each with a name of at least one byte and a key that begins with 04.
     Advance {
+        /// The chip's new date.
         date: Date6,
+        /// The new current trust point.
         current: TrustPoint,
+        /// The new previous one; `None` leaves none.
         previous: Option<TrustPoint>,
     },
     /// Writes these bytes of a file that is there, from this offset on and not past its end.
     Write {
+        /// The file, by its number.
         file: FileNo,
+        /// The place of the first byte that is written, counted from the file's first byte.
         offset: u16,
+        /// What is written there.
         bytes: &'a [u8],
     },
 }
@@ -63,24 +69,9 @@ pub fn apply(kept: &mut Record, effect: &Effect<'_>)
             previous,
         } => {
             kept.date = *date;
-            kept.current = copy_of(current);
-            kept.previous = previous.as_ref().map(copy_of);
+            kept.current = current.copied();
+            kept.previous = previous.as_ref().map(TrustPoint::copied);
         }
         Effect::Write { .. } => {}
-    }
-}
-
-/// The same trust point; no memory is taken.
-fn copy_of(point: &TrustPoint) -> TrustPoint
-    ensures same { trust_point_view result ≡ trust_point_view point.now }
-    ensures shaped { IsShaped (trust_point_view result) }
-{
-    let mut name = ArrayVec::new();
-    let _ = name.try_extend_from_slice(point.name.as_slice());
-    let key = point.key;
-    TrustPoint {
-        name,
-        template: point.template,
-        key,
     }
 }

@@ -8,9 +8,7 @@ mod reading;
 mod writing;
 
 pub use effect::{Effect, apply};
-pub use fields::{FileNo, Password, Record, TrustPoint};
-pub use reading::{BadRecord, read_record};
+pub use fields::{FileNo, Password, Record, TrustPoint, size_of};
+pub use layout::{FILES, FIXED, MAX_FILE, MAX_FILES};
+pub use reading::{BadRecord, are_digits, read_record};
 pub use writing::write_record;
-
-#[cfg(test)]
-mod tests;

@@ -8,13 +8,13 @@ ghost use Rattle.std.specs.Int.{w16, from_be_bytes};
 ghost use Rattle.eid_bits.specs.Dates.{date_digits};
 ghost use Rattle.eid_bits.specs.Template.{template_bytes};
 
-use crate::fields::{Record, TrustPoint};
+use crate::fields::{Record, TrustPoint, size_of};
 use crate::layout::*;
 use arrayvec::ArrayVec;
 use eid_bits::{Date6, Template};
 
 /// A field of the fixed bytes has a value that no record has.
-#[derive(Clone, Copy, Debug, PartialEq, Eq, Hash)]
+#[derive(Clone, Copy)]
 pub struct BadRecord {
     /// The place of the field's first byte; of several refused fields it is the lowest.
     pub place: u16,
@@ -43,10 +43,11 @@ fn at_most(fixed: &[u8; FIXED], place: u16, most: u8) -> Result<u8, BadRecord>
     Ok(number)
 }
 
-fn are_digits(bytes: &[u8]) -> bool
+/// Whether each byte is an ASCII digit.
+pub fn are_digits(bytes: &[u8]) -> bool
     ensures { result ≡ list_all is_ascii_digit bytes.now }
 {
-    bytes.iter().all(|byte| matches!(*byte, b'0'..=b'9'))
+    bytes.iter().all(|byte| byte.is_ascii_digit())
 }
 
 #[tactic(auto, unfolding(crate::specs::Reading::digits_at))]
@@ -143,32 +144,22 @@ fn length_at(fixed: &[u8; FIXED], place: u16, sum: u32) -> Result<Option<u16>, B
     if length == ABSENT {
         return Ok(None);
     }
-    if length > 2048 || sum + u32::from(length) > 24000 {
+    if length > MAX_FILE || sum + u32::from(length) > MAX_FILES {
         return Err(BadRecord { place });
     }
     Ok(Some(length))
 }
 
-/// The number of a file's bytes, 0 where it is absent.
-fn size(length: Option<u16>) -> u32
-    ensures { result ≡ size length }
-{
-    match length {
-        None => 0,
-        Some(length) => u32::from(length),
-    }
-}
-
-fn lengths(fixed: &[u8; FIXED]) -> Result<[Option<u16>; 23], BadRecord>
+fn lengths(fixed: &[u8; FIXED]) -> Result<[Option<u16>; FILES], BadRecord>
     ensures { Reads (λ x. x) result (lengths_from 23 384 0 fixed.now) }
 {
-    let mut lengths = [None; 23];
+    let mut lengths = [None; FILES];
     let mut place = LENGTHS;
     let mut sum = 0;
-    for i in 0..23 {
+    for i in 0..FILES {
         let length = length_at(fixed, place, sum)?;
         lengths[i] = length;
-        sum += size(length);
+        sum += size_of(length);
         place += 2;
     }
     Ok(lengths)

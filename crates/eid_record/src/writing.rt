@@ -40,7 +40,7 @@ fn length_bytes(length: Option<u16>) -> [u8; 2]
 }
 
 /// Puts the lengths of the files, two bytes each.
-fn put_lengths(fixed: &mut [u8; FIXED], lengths: &[Option<u16>; 23])
+fn put_lengths(fixed: &mut [u8; FIXED], lengths: &[Option<u16>; FILES])
     ensures { fixed.new ≡ replaced 384 (flat_map length_bytes lengths.now) fixed.old }
 {
     let mut place = LENGTHS;

@@ -13,7 +13,8 @@ use Rattle.eid_record.proofs.ReadValid.{record_in-valid}
 use Rattle.eid_store.specs.declared.slot.Slot.{Slot}
 use Rattle.eid_store.specs.declared.next.NewRecord.{NewRecord}
 use Rattle.eid_store.specs.Slots.{other_of, room_of, number_in}
-use Rattle.eid_store.specs.Pages.{change_place, change_bytes, page_count}
+use Rattle.eid_store.specs.Cost.{page_count}
+use Rattle.eid_store.specs.Pages.{change_place, change_bytes}
 use Rattle.eid_store.specs.NewRecord.{IsReady, next_bytes}
 use Rattle.eid_store.specs.Turn.{SameSlot, IsTurned}
 use Rattle.eid_store.proofs.Rooms.{length-room}

@@ -6,7 +6,8 @@ use Rattle.eid_record.specs.Layout.{replaced}
 use Rattle.eid_store.specs.declared.slot.Slot.{Slot}
 use Rattle.eid_store.specs.declared.next.NewRecord.{NewRecord}
 use Rattle.eid_store.specs.Slots.{record_of, room_of}
-use Rattle.eid_store.specs.Pages.{page_count, filled, page_of}
+use Rattle.eid_store.specs.Cost.{page_count}
+use Rattle.eid_store.specs.Pages.{filled, page_of}
 use Rattle.eid_store.specs.NewRecord.{IsReady, next_bytes}
 use Rattle.eid_store.proofs.Rooms.{get_or-room}
 

@@ -56,7 +56,7 @@ current_greater B cells one other lt =
     let greater : nat_lt (number_in A cells) (number_in B cells) ≡ true = lt-ltb (number_in A cells) (number_in B cells) lt in
     rw (one, other, not_less, greater) refl
 
--- the slot that counts stays, and the other is closed
+-- the current slot stays, and the other is closed
 pub held_alone : (slot : Slot) (full : FullRecord) (old new : List ℕ) → Holds slot full old → slice_index new 0 ≡ slice_index old 0 → SameSlot slot old new
     → is_open (other_of slot) new ≡ false → Holds slot full new
 held_alone slot full old new holds layout same closed = record {

@@ -7,7 +7,8 @@ use Rattle.eid_cells.proofs.Ranges.{range-patched}
 use Rattle.eid_store.specs.declared.slot.Slot.{Slot}
 use Rattle.eid_store.specs.declared.next.NewRecord.{NewRecord}
 use Rattle.eid_store.specs.Slots.{gate_of, record_of, other_of, is_open, room_of}
-use Rattle.eid_store.specs.Pages.{page_count, filled}
+use Rattle.eid_store.specs.Cost.{page_count}
+use Rattle.eid_store.specs.Pages.{filled}
 use Rattle.eid_store.specs.NewRecord.{IsReady, next_bytes}
 use Rattle.eid_store.specs.Turn.{IsTurned, WasTurning, Before, Closed, Turned}
 use Rattle.eid_store.proofs.Rooms.{record_fits, length-room}

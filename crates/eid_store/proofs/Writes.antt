@@ -8,7 +8,8 @@ use Rattle.eid_store.specs.declared.slot.Slot.{Slot}
 use Rattle.eid_store.specs.declared.slot.Slot.TheVariants.{A, B}
 use Rattle.eid_store.specs.declared.next.NewRecord.{NewRecord}
 use Rattle.eid_store.specs.Slots.{record_of, other_of, room_of}
-use Rattle.eid_store.specs.Pages.{page_count, filled, page_of}
+use Rattle.eid_store.specs.Cost.{page_count}
+use Rattle.eid_store.specs.Pages.{filled, page_of}
 use Rattle.eid_store.specs.NewRecord.{IsReady, next_bytes}
 use Rattle.eid_store.proofs.Rooms.{record_fits}
 use Rattle.eid_store.proofs.PageBytes.{length-filled, length-next_bytes}

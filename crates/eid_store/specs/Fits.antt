@@ -7,7 +7,7 @@ use Rattle.eid_record.specs.View.{record_view}
 use Rattle.eid_store.specs.declared.two_slot.TwoSlot.{TwoSlot}
 use Rattle.eid_store.specs.Slots.{current}
 use Rattle.eid_store.specs.Stands.{two_slot_stands}
-use Rattle.eid_store.specs.Turn.{turn_cost}
+use Rattle.eid_store.specs.Cost.{turn_cost}
 
 -- the fields that the store keeps
 abbrev pub two_slot_fields : TwoSlot → PlainRecord

@@ -1,3 +1,4 @@
+-- Inside: cited by private contracts alone.
 -- The bytes of a record that a commit writes.
 use Rattle.std.specs.Prelude.{◌≡◌, ℕ, ◌+◌, ◌≤◌, List, length}
 use Rattle.eid_store.specs.declared.next.NewRecord.{NewRecord}

@@ -1,3 +1,4 @@
+-- Inside: cited by private contracts alone.
 -- The bytes that a commit writes.
 use Rattle.std.specs.Prelude.{ℕ, ◌+◌, ◌-◌, ◌*◌, ◌/◌, List, [], ◌++◌, length, take, drop, replicate, Option, slice_range}
 use Rattle.eid_record.specs.Files.{total}
@@ -17,10 +18,6 @@ change_bytes effect = []
 -- the record's bytes: the fixed bytes, and those of the files as they stand in this room up to here, with a change
 abbrev pub new_bytes : List ℕ → ℕ → ℕ → List ℕ → List ℕ → List ℕ
 new_bytes fixed size place change room = fixed ++ replaced place change (slice_range room 448 (448 + size))
-
--- the pages of a record whose files have so many bytes
-abbrev pub page_count : ℕ → ℕ
-page_count size = (448 + size + 63) / 64
 
 -- so many whole pages, the last of them filled with 00
 abbrev pub filled : ℕ → List ℕ → List ℕ

@@ -3,17 +3,16 @@ use Rattle.std.specs.Prelude.{ℕ, List, Option, Some, None, ◌==◌, slice_ind
 use Rattle.eid_record.specs.Plain.{FullRecord}
 use Rattle.eid_record.specs.Files.{full_in}
 use Rattle.eid_store.specs.declared.slot.Slot.{Slot}
-use Rattle.eid_store.specs.declared.slot.TheConstants.{LAYOUT}
-use Rattle.eid_store.specs.Slots.{room_of, current}
+use Rattle.eid_store.specs.Slots.{two_slot_layout, room_of, current}
 
 -- the record of that slot
 abbrev pub record_in_slot : Option Slot → List ℕ → Option FullRecord
 record_in_slot None cells = None
 record_in_slot (Some slot) cells = full_in (room_of slot cells)
 
--- layout 1: cell 0 is 1, and the slot that counts has a valid record
+-- layout 1: cell 0 says so, and the current slot has a valid record
 unfoldable pub two_slot_stands : List ℕ → Option FullRecord
-two_slot_stands cells = if slice_index cells 0 == LAYOUT then record_in_slot (current cells) cells else None
+two_slot_stands cells = if slice_index cells 0 == two_slot_layout then record_in_slot (current cells) cells else None
 
 -- cell 0 chooses the layout, of which there is one
 unfoldable pub stands : List ℕ → Option FullRecord

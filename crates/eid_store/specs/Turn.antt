@@ -1,11 +1,12 @@
+-- Inside: cited by private contracts alone.
 -- What turning from one slot to the other leaves.
 use Rattle.std.specs.Prelude.{◌≡◌, ℕ, ◌+◌, ◌*◌, true, false, List, take}
 use Rattle.eid_store.specs.declared.slot.Slot.{Slot}
 use Rattle.eid_store.specs.declared.next.NewRecord.{NewRecord}
 use Rattle.eid_store.specs.Slots.{other_of, is_open, room_of}
-use Rattle.eid_store.specs.Pages.{page_count, filled}
+use Rattle.eid_store.specs.Pages.{filled}
 use Rattle.eid_store.specs.NewRecord.{next_bytes}
-use Rattle.eid_store.specs.Cost.{once}
+use Rattle.eid_store.specs.Cost.{once, page_count}
 
 -- a slot is as it was
 pub record SameSlot (slot : Slot) (old new : List ℕ) : Type 0 where
@@ -22,7 +23,3 @@ pub data WasTurning (slot : Slot) (next : NewRecord) (old new : List ℕ) : Type
   Before : SameSlot (other_of slot) old new → WasTurning slot next old new
   Closed : is_open (other_of slot) new ≡ false → WasTurning slot next old new
   Turned : IsTurned slot next old new → WasTurning slot next old new
-
--- the writes that it takes: the pages, the gate, and before them the gate where it has to be closed
-abbrev pub turn_cost : Slot → ℕ → List ℕ → ℕ
-turn_cost slot size cells = once (is_open (other_of slot) cells) + page_count size + 1

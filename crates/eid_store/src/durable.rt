@@ -12,7 +12,7 @@ use eid_cells::{Cut, Eeprom};
 use eid_record::{Effect, FileNo, Record};
 
 /// Why a store was not mounted.
-#[derive(Clone, Copy, Debug, PartialEq, Eq, Hash)]
+#[derive(Clone, Copy)]
 pub enum MountError {
     /// The power was cut while the cells were repaired.
     Cut,
@@ -27,19 +27,19 @@ pub trait Durable: Sized {
     ghost use Rattle.eid_store.specs.Durable.{IsAllOrNothing, Mounts, is_spend};
     ghost use Rattle.eid_store.specs.Receipt.{receipt_number, receipt_spends};
 
-    // The full record that cells stand for; none where they are of another layout.
+    /// The full record that cells stand for; none where they are of another layout.
     ghost stands: { List ℕ → Option FullRecord };
 
-    // The fields that the store keeps.
+    /// The fields that the store keeps.
     ghost fields: { Self → PlainRecord };
 
-    // There is power, the cells stand for a full record of the store's fields, and stand at rest where the store has it.
+    /// There is power, the cells stand for a full record of the store's fields, and stand at rest where the store has it.
     ghost fits: { Self → Device → List ℕ → Type 0 };
 
-    // How many writes mounting these cells takes.
+    /// How many writes mounting these cells takes.
     ghost mount_cost: { List ℕ → ℕ };
 
-    // How many writes a commit of the effect to these cells takes.
+    /// How many writes a commit of the effect to these cells takes.
     ghost commit_cost: { Self → List ℕ → PlainEffect → ℕ };
 
     /// Mounts the record that the cells stand for; a cut leaves them standing for it. `BadImage` comes exactly where

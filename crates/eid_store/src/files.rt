@@ -4,11 +4,10 @@ ghost use Rattle.std.specs.Prelude.{◌≡◌, ◌+◌, ◌≤◌, length, take}
 ghost use Rattle.eid_record.specs.EffectView.{effect_view};
 ghost use Rattle.eid_record.specs.Effect.{CanApply};
 ghost use Rattle.eid_record.specs.Files.{total};
-ghost use Rattle.eid_record.specs.Reading.{size};
 ghost use Rattle.eid_record.specs.View.{record_view};
 ghost use Rattle.eid_store.specs.Pages.{change_place, change_bytes};
 
-use eid_record::{Effect, FileNo, Record};
+use eid_record::{Effect, FILES, FileNo, Record, size_of};
 
 /// How many bytes files of these lengths have together.
 pub fn files_size(lengths: &[Option<u16>]) -> u32
@@ -22,17 +21,8 @@ pub fn files_size(lengths: &[Option<u16>]) -> u32
     sum
 }
 
-fn size_of(length: Option<u16>) -> u32
-    ensures { result ≡ size length }
-{
-    match length {
-        None => 0,
-        Some(length) => u32::from(length),
-    }
-}
-
 /// The place of a file's first byte, counted from the first byte of the first file.
-pub fn place_of(lengths: &[Option<u16>; 23], file: FileNo) -> u32
+pub fn place_of(lengths: &[Option<u16>; FILES], file: FileNo) -> u32
     requires known { file.0 ≤ 23 }
     requires fit { total lengths.now ≤ 24000 }
     ensures { result ≡ total (take file.0 lengths.now) }

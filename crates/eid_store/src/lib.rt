@@ -19,6 +19,3 @@ pub use law::{law_complete, law_costs, law_fits};
 pub use receipt::Receipt;
 pub use store::Store;
 pub use two_slot::TwoSlot;
-
-#[cfg(test)]
-mod tests;

@@ -7,13 +7,14 @@ ghost use Rattle.eid_record.specs.Reading.{record_in};
 ghost use Rattle.eid_record.specs.Valid.{IsValid};
 ghost use Rattle.eid_record.specs.View.{record_view};
 
-use eid_record::{Effect, Record, apply, write_record};
+use eid_record::{Effect, FIXED, Record, apply, write_record};
 
 /// A record that a commit writes: its fixed bytes, and behind them the files' bytes as they stand in the cells, with
 /// one change.
 #[derive(Clone, Copy)]
 pub struct NewRecord<'a> {
-    pub fixed: &'a [u8; 448],
+    /// Every field, at its place.
+    pub fixed: &'a [u8; FIXED],
     /// How many bytes the files have together.
     pub size: u32,
     /// The place of the change, counted from the first byte of the first file.
@@ -23,7 +24,7 @@ pub struct NewRecord<'a> {
 }
 
 /// Applies the effect, raises the commit number by one, and writes the fixed bytes.
-pub fn advance(kept: &mut Record, effect: &Effect<'_>, fixed: &mut [u8; 448])
+pub fn advance(kept: &mut Record, effect: &Effect<'_>, fixed: &mut [u8; FIXED])
     requires valid { IsValid (record_view kept.old) }
     requires effect { CanApply (effect_view effect.now) (record_view kept.old) }
     requires number { kept.old.number < 4294967295 }

@@ -3,13 +3,13 @@
 ghost use Rattle.std.specs.Prelude.{◌≡◌, ℕ, List, ◌+◌, ◌*◌, ◌/◌, ◌≤◌, ◌<◌, length, slice_index, IsTrue, OnOk};
 ghost use Rattle.eid_cells.specs.Cells.{SameOutside, patched};
 ghost use Rattle.eid_record.specs.Layout.{replaced};
-ghost use Rattle.eid_store.specs.Cost.{Costs};
-ghost use Rattle.eid_store.specs.Pages.{page_count, filled, page_of};
+ghost use Rattle.eid_store.specs.Cost.{Costs, page_count};
+ghost use Rattle.eid_store.specs.Pages.{filled, page_of};
 ghost use Rattle.eid_store.specs.Slots.{record_of, other_of, room_of};
 ghost use Rattle.eid_store.specs.NewRecord.{IsReady, next_bytes};
 
 use crate::next::NewRecord;
-use crate::slot::{PAGE, Slot};
+use crate::slot::{FILES_FROM, PAGE, Slot};
 use eid_cells::{Cut, Eeprom};
 
 /// The byte of the files at this place after the change, where before it this one stands there: 00 behind the last file.
@@ -41,14 +41,14 @@ fn page<E: Eeprom>(cells: &E, source: Slot, next: &NewRecord<'_>, index: u32) ->
 {
     let start = PAGE * index;
     let mut page = [0; 64];
-    if start < 448 {
+    if start < FILES_FROM {
         let from = start as usize;
         let fixed = next.fixed;
         page.copy_from_slice(&fixed[from..from + 64]);
         return page;
     }
     cells.read(source.record() + start, &mut page);
-    change_page(&mut page, start - 448, next);
+    change_page(&mut page, start - FILES_FROM, next);
     page
 }
 
@@ -67,6 +67,14 @@ fn change_page(page: &mut [u8; 64], place: u32, next: &NewRecord<'_>)
     }
 }
 
+/// How many pages a record has whose files have so many bytes.
+fn page_count(size: u32) -> u32
+    requires { size ≤ 24000 }
+    ensures { result ≡ page_count size }
+{
+    (FILES_FROM + size).div_ceil(PAGE)
+}
+
 /// Writes the new record to the other slot than the one that it is in, in rising order.
 pub fn write_pages<E: Eeprom>(cells: &mut E, source: Slot, next: &NewRecord<'_>) -> Result<(), Cut>
     requires power { IsTrue (E.device cells.old).has_power }
@@ -79,7 +87,7 @@ pub fn write_pages<E: Eeprom>(cells: &mut E, source: Slot, next: &NewRecord<'_>)
         (E.device cells.old) (E.device cells.new) result }
 {
     let target = source.other();
-    let pages = (448 + next.size + 63) / PAGE;
+    let pages = page_count(next.size);
     for index in 0..pages {
         let page = page(cells, source, next, index);
         cells.write(target.record() + PAGE * index, &page)?;

@@ -3,6 +3,8 @@
 
 ghost use Rattle.std.specs.Prelude.{◌≡◌};
 
+use eid_record::{FIXED, MAX_FILES};
+
 /// Cell 0 of layout 1.
 pub const LAYOUT: u8 = 1;
 /// The value of a gate that is open; each other value is closed.
@@ -12,10 +14,12 @@ pub const CLOSED: u8 = 0;
 /// The cells of one page, which a write does not cross.
 pub const PAGE: u32 = 64;
 /// The cells that a slot has for its record.
-pub const ROOM: u32 = 24_448;
+pub const ROOM: u32 = FILES_FROM + MAX_FILES;
+/// Where the bytes of the files begin, counted from the record's first byte.
+pub const FILES_FROM: u32 = FIXED as u32;
 
 /// One of the two slots.
-#[derive(Clone, Copy, Debug, PartialEq, Eq, Hash)]
+#[derive(Clone, Copy)]
 pub enum Slot {
     A,
     B,
@@ -44,6 +48,7 @@ impl Slot {
         }
     }
 
+    /// The slot that this one is not.
     pub fn other(self) -> Slot
         ensures { result ≡ other_of self }
     {

@@ -12,7 +12,7 @@ use eid_cells::{Cut, Eeprom};
 use eid_record::{Effect, FileNo, Record};
 
 /// The chip's record in its cells, in the layout that cell 0 chooses.
-#[derive(Debug, Drop)]
+#[derive(Drop)]
 pub enum Store {
     /// Layout 1.
     Slots(TwoSlot),

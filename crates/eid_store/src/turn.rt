@@ -1,9 +1,9 @@
-//! From the slot that counts to the other one.
+//! From the current slot to the other one.
 
 ghost use Rattle.std.specs.Prelude.{◌≡◌, IsTrue, OnOk, OnErr, slice_index};
-ghost use Rattle.eid_store.specs.Cost.{Costs};
+ghost use Rattle.eid_store.specs.Cost.{Costs, turn_cost};
 ghost use Rattle.eid_store.specs.NewRecord.{IsReady};
-ghost use Rattle.eid_store.specs.Turn.{SameSlot, IsTurned, WasTurning, turn_cost};
+ghost use Rattle.eid_store.specs.Turn.{SameSlot, IsTurned, WasTurning};
 
 use crate::gates::{close_gate, open_gate};
 use crate::next::NewRecord;

@@ -16,13 +16,13 @@ use crate::files::{change_of, files_size, place_of};
 use crate::gates::is_open;
 use crate::next::{NewRecord, advance};
 use crate::receipt::Receipt;
-use crate::slot::{LAYOUT, Slot};
+use crate::slot::{FILES_FROM, LAYOUT, Slot};
 use crate::turn::turn;
 use eid_cells::{Cut, Eeprom};
-use eid_record::{Effect, FileNo, Record, read_record};
+use eid_record::{Effect, FIXED, FileNo, Record, read_record};
 
 /// Layout 1: the record stands in one of two slots, and a commit writes the other and opens it. Mounting makes no write.
-#[derive(Debug, Drop)]
+#[derive(Drop)]
 pub struct TwoSlot {
     kept: Record,
     slot: Slot,
@@ -38,7 +38,7 @@ fn number<E: Eeprom>(cells: &E, slot: Slot) -> u32
     u32::from_be_bytes(bytes)
 }
 
-/// The slot that counts: the one that is open, of two open ones that of the greater number.
+/// The current slot: the one that is open, of two open ones that of the greater number.
 fn current<E: Eeprom>(cells: &E) -> Option<Slot>
     requires { IsTrue (E.device cells.now).has_power }
     ensures { result ≡ current (E.cells cells.now) }
@@ -51,7 +51,7 @@ fn current<E: Eeprom>(cells: &E) -> Option<Slot>
     }
 }
 
-/// Of two open slots with these numbers, the one that counts.
+/// Of two open slots with these numbers, the current one.
 fn greater(a: u32, b: u32) -> Option<Slot>
     ensures { result ≡ chosen true true a b }
 {
@@ -77,7 +77,7 @@ fn mounted<E: Eeprom>(cells: &E) -> Option<TwoSlot>
     let Some(slot) = current(cells) else {
         return None;
     };
-    let mut fixed = [0; 448];
+    let mut fixed = [0; FIXED];
     cells.read(slot.record(), &mut fixed);
     match read_record(&fixed) {
         Ok(kept) => Some(TwoSlot { kept, slot }),
@@ -127,13 +127,13 @@ impl Durable for TwoSlot {
 
     fn read_file<E: Eeprom>(&self, cells: &E, file: FileNo, offset: u16, into: &mut [u8]) {
         let place = place_of(&self.kept.lengths, file) + u32::from(offset);
-        cells.read(self.slot.record() + 448 + place, into);
+        cells.read(self.slot.record() + FILES_FROM + place, into);
     }
 
     fn commit<E: Eeprom>(&mut self, cells: &mut E, effect: &Effect<'_>) -> Result<Receipt, Cut> {
         let (change_at, change) = change_of(effect, &self.kept);
         let size = files_size(&self.kept.lengths);
-        let mut fixed = [0; 448];
+        let mut fixed = [0; FIXED];
         advance(&mut self.kept, effect, &mut fixed);
         let next = NewRecord {
             fixed: &fixed,

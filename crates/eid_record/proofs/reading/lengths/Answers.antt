@@ -16,10 +16,10 @@ loop-i-preserved c =
     let in_range : c.loop-i.i < length c.loop-i.lengths = omega (arith, c.loop-i.invariant.all, c.loop-i-test.true) in
     let step = goes_on (take c.loop-i.i c.loop-i.lengths) c.loop-i.i c.loop-i.place c.loop-i.sum c.args.fixed.now n (lengths_from 23 384 0 c.args.fixed.now) c.loop-i-test.true c.in_ok-length.ensures.reads c.loop-i.invariant.read in
     record {
-      read = rw (take_more_set c.loop-i.lengths c.loop-i.i n in_range, c.size-sum.ensures) step;
+      read = rw (take_more_set c.loop-i.lengths c.loop-i.i n in_range, c.size_of-sum.ensures) step;
       all = length-set c.loop-i.lengths c.loop-i.i n ∙ c.loop-i.invariant.all;
       at = omega (arith, c.loop-i.invariant.at);
-      fits = rw c.size-sum.ensures c.in_ok-length.ensures.sum;
+      fits = rw c.size_of-sum.ensures c.in_ok-length.ensures.sum;
     }
 
 pub returns : goal.returns

@@ -1,8 +1,9 @@
-use Rattle.std.proofs.Common.{◌≡◌, ℕ, ◌+◌, ◌*◌, List, length, take, ap, ◌∙◌, arith}
+use Rattle.std.proofs.Common.{◌≡◌, ℕ, ◌+◌, ◌*◌, ◌<◌, List, length, take, ap, ◌∙◌, arith}
 use Rattle.std.proofs.lemmas.List.{length-take}
 use Rattle.eid_cells.specs.Cells.{SameOutside, patched}
 use Rattle.eid_store.specs.Slots.{record_of, other_of, room_of}
-use Rattle.eid_store.specs.Pages.{page_count, filled, page_of}
+use Rattle.eid_store.specs.Cost.{page_count}
+use Rattle.eid_store.specs.Pages.{filled, page_of}
 use Rattle.eid_store.specs.NewRecord.{next_bytes}
 use Rattle.eid_store.specs.declared.slot.Slot.{Slot}
 use Rattle.eid_store.specs.declared.next.NewRecord.{NewRecord}
@@ -11,6 +12,10 @@ use Rattle.eid_store.proofs.Rooms.{length-room}
 use Rattle.eid_store.proofs.Costs.{steady_more, spared_more}
 use Rattle.eid_store.proofs.Writes.{room_apart, room_alone, length-pages, length-page, one_more, cut_page}
 use Rattle.eid_store.proofs.pages.write_pages.Goals as goal
+
+-- a number below the count of pages
+count_is : (i count pages : ℕ) → count ≡ pages → i < count → i < pages
+count_is i count pages same below = omega (arith, same, below)
 
 -- the pages of the record that is written
 abbrev all_pages : Slot → NewRecord → List ℕ → List ℕ
@@ -34,10 +39,11 @@ returns-in_err-write-clause-same g c =
     let long = g.met.E.Eeprom.count c.args.cells.now in
     let so_far = same_so_far source next first cells c.loop-index.index long c.requires.ready c.loop-index.invariant.written in
     let whole_now = length-pages next (room_of source cells) c.requires.ready (length-room source cells (g.met.E.Eeprom.count c.loop-index.cells)) in
-    let size : length c.page-page.result ≡ 64 = rw c.page-page.ensures (length-page (all_pages source next cells) (page_count next.size) c.loop-index.index whole_now.0 c.loop-index-test.true) in
+    let inside = count_is c.loop-index.index c.page_count-pages.result (page_count next.size) c.page_count-pages.ensures c.loop-index-test.true in
+    let size : length c.page-page.result ≡ 64 = rw c.page-page.ensures (length-page (all_pages source next cells) (page_count next.size) c.loop-index.index whole_now.0 inside) in
     let place : c.record.result ≡ record_of (other_of source) = c.record.ensures ∙ ap record_of c.other-target.ensures in
     cut_page (other_of source) (c.record.result + 64 * c.loop-index.index) (length c.page-page.result) first cells (g.E.Eeprom.cells c.write.new.self)
-    (omega (arith, place)) (omega (arith, place, size, whole_now.1, c.loop-index-test.true)) so_far c.write.ensures.outside
+    (omega (arith, place)) (omega (arith, place, size, whole_now.1, inside)) so_far c.write.ensures.outside
 
 pub loop-index-preserved : goal.loop-index-preserved
 loop-index-preserved g c =
@@ -50,12 +56,13 @@ loop-index-preserved g c =
     let so_far = same_so_far source next first cells i long c.requires.ready c.loop-index.invariant.written in
     let whole = length-pages next (room_of source first) c.requires.ready (length-room source first long) in
     let room : room_of source cells ≡ room_of source first = room_apart source first cells so_far in
+    let inside = count_is i c.page_count-pages.result (page_count next.size) c.page_count-pages.ensures c.loop-index-test.true in
     let page : c.page-page.result ≡ page_of i (all_pages source next first) = c.page-page.ensures ∙ ap (λ (r : List ℕ). page_of i (filled (page_count next.size) (next_bytes next r))) room in
     let place : c.record.result ≡ record_of (other_of source) = c.record.ensures ∙ ap record_of c.other-target.ensures in
     let there : g.E.Eeprom.cells c.write.new.self ≡ patched (record_of (other_of source) + 64 * i) c.page-page.result cells =
     c.in_ok-write.ensures.written ∙ ap (λ (p : ℕ). patched (p + 64 * i) c.page-page.result cells) place in
     record {
-      written = there ∙ one_more (other_of source) (all_pages source next first) first cells c.page-page.result (page_count next.size) i long whole.0 whole.1 c.loop-index-test.true page c.loop-index.invariant.written;
+      written = there ∙ one_more (other_of source) (all_pages source next first) first cells c.page-page.result (page_count next.size) i long whole.0 whole.1 inside page c.loop-index.invariant.written;
       steady = steady_more i (g.E.Eeprom.device c.args.cells.now) (g.E.Eeprom.device c.loop-index.cells) (g.E.Eeprom.device c.write.new.self) c.loop-index.invariant.steady c.in_ok-write.ensures.steady;
       spared = spared_more i (g.E.Eeprom.device c.args.cells.now) (g.E.Eeprom.device c.loop-index.cells) c.loop-index.invariant.steady c.loop-index.invariant.spared (λ told one. (c.in_ok-write.ensures.as_planned told).1 one);
     }

@@ -3,8 +3,8 @@ use Rattle.eid_cells.specs.Cells.{patched}
 use Rattle.eid_cells.specs.Device.{Device}
 use Rattle.eid_store.specs.declared.slot.Slot.{Slot}
 use Rattle.eid_store.specs.declared.next.NewRecord.{NewRecord}
-use Rattle.eid_store.specs.Cost.{written_times}
-use Rattle.eid_store.specs.Pages.{page_count, filled}
+use Rattle.eid_store.specs.Cost.{written_times, page_count}
+use Rattle.eid_store.specs.Pages.{filled}
 use Rattle.eid_store.specs.NewRecord.{next_bytes}
 use Rattle.eid_store.specs.Slots.{record_of, other_of, room_of}
 use Rattle.eid_store.proofs.pages.write_pages.Given as goal
