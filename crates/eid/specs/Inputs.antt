@@ -47,7 +47,8 @@ unless_refused (Ok value) later = later
 -- the order of the words
 unfoldable pub expected : Command → (List ℕ → Option (List ℕ)) → Exit
 expected (Run image script start) files = unless_refused (image_in (files image)) (unless_refused (script_in (files script)) Done)
-expected (Replay image script answers) files = unless_refused (image_in (files image)) (unless_refused (script_in (files script)) (unless_refused (answers_in (files answers)) Done))
+expected (Replay image script answers) files = unless_refused (image_in (files image)) (unless_refused (script_in (files script)) (unless_refused
+    (answers_in (files answers)) Done))
 expected (Make config image) files = unless_refused (config_in (files config)) Done
 expected (Show image) files = unless_refused (image_in (files image)) Done
 

@@ -47,7 +47,8 @@ pub enum Read {
 /// Reads a file whole, where it has at most this many bytes.
 fn read_whole<F: Folder>(alloc: Global, folder: &mut F, name: &str, limit: usize) -> Read
     requires { limit ≤ 16777216 }
-    ensures read { IsRead (F.seen folder.old).tells ((F.seen folder.old).file name.now) limit (Rose (F.seen folder.old).faults (F.seen folder.new).faults) result }
+    ensures read { IsRead (F.seen folder.old).tells ((F.seen folder.old).file name.now) limit (Rose (F.seen folder.old).faults
+        (F.seen folder.new).faults) result }
     ensures same { SameFiles (F.seen folder.old) (F.seen folder.new) }
     ensures later { (F.seen folder.old).faults ≤ (F.seen folder.new).faults }
 {
@@ -98,7 +99,8 @@ fn image_of(alloc: Global, bytes: Vec<u8>) -> Result<Vec<u8>, Exit>
 pub fn load_image<F: Folder>(alloc: Global, folder: &mut F, name: &str) -> Result<Vec<u8>, Exit>
     ensures stands { IfOk result (λ cells. (length cells.items ≡ 65536) × IsSome (stands cells.items)) }
     ensures held { IfOk result (λ cells. IsTrue (F.seen folder.old).tells → (F.seen folder.old).file name.now ≡ Some cells.items) }
-    ensures refused { IfErr result (λ e. IsRefused (F.seen folder.old).tells (image_in ((F.seen folder.old).file name.now)) (Rose (F.seen folder.old).faults (F.seen folder.new).faults) e) }
+    ensures refused { IfErr result (λ e. IsRefused (F.seen folder.old).tells (image_in ((F.seen folder.old).file name.now)) (Rose (F.seen folder.old).faults
+        (F.seen folder.new).faults) e) }
     ensures same { SameFiles (F.seen folder.old) (F.seen folder.new) }
     ensures later { (F.seen folder.old).faults ≤ (F.seen folder.new).faults }
 {
@@ -125,7 +127,8 @@ fn script_of_text(alloc: Global, text: &[u8]) -> Result<Vec<Line>, Exit>
 /// Reads a script.
 pub fn load_script<F: Folder>(alloc: Global, folder: &mut F, name: &str) -> Result<Vec<Line>, Exit>
     ensures lines { IfOk result (λ lines. IsTrue (F.seen folder.old).tells → script_in ((F.seen folder.old).file name.now) ≡ Ok (map plain_line lines.items)) }
-    ensures refused { IfErr result (λ e. IsRefused (F.seen folder.old).tells (script_in ((F.seen folder.old).file name.now)) (Rose (F.seen folder.old).faults (F.seen folder.new).faults) e) }
+    ensures refused { IfErr result (λ e. IsRefused (F.seen folder.old).tells (script_in ((F.seen folder.old).file name.now)) (Rose
+        (F.seen folder.old).faults (F.seen folder.new).faults) e) }
     ensures same { SameFiles (F.seen folder.old) (F.seen folder.new) }
     ensures later { (F.seen folder.old).faults ≤ (F.seen folder.new).faults }
 {
@@ -156,7 +159,8 @@ pub fn load_answers<F: Folder>(
     name: &str,
 ) -> Result<Vec<Answer>, Exit>
     ensures answers { IfOk result (λ answers. IsTrue (F.seen folder.old).tells → answers_in ((F.seen folder.old).file name.now) ≡ Ok answers.items) }
-    ensures refused { IfErr result (λ e. IsRefused (F.seen folder.old).tells (answers_in ((F.seen folder.old).file name.now)) (Rose (F.seen folder.old).faults (F.seen folder.new).faults) e) }
+    ensures refused { IfErr result (λ e. IsRefused (F.seen folder.old).tells (answers_in ((F.seen folder.old).file name.now)) (Rose
+        (F.seen folder.old).faults (F.seen folder.new).faults) e) }
     ensures same { SameFiles (F.seen folder.old) (F.seen folder.new) }
     ensures later { (F.seen folder.old).faults ≤ (F.seen folder.new).faults }
 {
@@ -185,7 +189,8 @@ fn config_of_text(alloc: Global, text: &[u8]) -> Result<Config, Exit>
 pub fn load_config<F: Folder>(alloc: Global, folder: &mut F, name: &str) -> Result<Config, Exit>
     ensures said { IfOk result (λ config. IsTrue (F.seen folder.old).tells → config_in ((F.seen folder.old).file name.now) ≡ Ok (config_view config)) }
     ensures whole { IfOk result (λ config. IsWhole (config_view config)) }
-    ensures refused { IfErr result (λ e. IsRefused (F.seen folder.old).tells (config_in ((F.seen folder.old).file name.now)) (Rose (F.seen folder.old).faults (F.seen folder.new).faults) e) }
+    ensures refused { IfErr result (λ e. IsRefused (F.seen folder.old).tells (config_in ((F.seen folder.old).file name.now)) (Rose
+        (F.seen folder.old).faults (F.seen folder.new).faults) e) }
     ensures same { SameFiles (F.seen folder.old) (F.seen folder.new) }
     ensures later { (F.seen folder.old).faults ≤ (F.seen folder.new).faults }
 {

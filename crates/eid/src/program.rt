@@ -49,8 +49,10 @@ pub fn program<F: Folder, K: Sink>(
     out: &mut K,
 ) -> Exit
     ensures usage { result ≡ Exit.Usage → (c : Command) → Says (map (λ s. string_bytes s) words.now) c → ⊥ }
-    ensures no_command { ((c : Command) → Says (map (λ s. string_bytes s) words.now) c → ⊥) → IsIdle (F.seen folder.old) (F.seen folder.new) (K.seen out.old) (K.seen out.new) result }
-    ensures meets { (c : Command) → Says (map (λ s. string_bytes s) words.now) c → Meets c (F.seen folder.old) (F.seen folder.new) (K.seen out.old) (K.seen out.new) result }
+    ensures no_command { ((c : Command) → Says (map (λ s. string_bytes s) words.now) c → ⊥)
+        → IsIdle (F.seen folder.old) (F.seen folder.new) (K.seen out.old) (K.seen out.new) result }
+    ensures meets { (c : Command) → Says (map (λ s. string_bytes s) words.now) c
+        → Meets c (F.seen folder.old) (F.seen folder.new) (K.seen out.old) (K.seen out.new) result }
 {
     match read_words(alloc, words) {
         Ok(Some(words)) => carry_out(alloc, words, folder, out),

@@ -31,7 +31,9 @@ pub fn run_and_store<C: Coprocessor, F: Folder, K: Sink>(
     requires size { length cells.items ≡ 65536 }
     requires stands { IsSome (stands cells.items) }
     requires log { (C.seen copro.old).log ≡ [] }
-    ensures { (source : Source) (opening : FullRecord) → HasSource (C.seen copro.old).told source → stands cells.items ≡ Some opening → IsEndOfRun image.now source (setup opening cells.items (map plain_line lines.now)) (F.seen folder.old) (F.seen folder.new) (K.seen out.old) (K.seen out.new) result }
+    ensures { (source : Source) (opening : FullRecord) → HasSource (C.seen copro.old).told source → stands cells.items ≡ Some opening
+        → IsEndOfRun image.now source (setup opening cells.items (map plain_line lines.now)) (F.seen folder.old) (F.seen folder.new) (K.seen out.old)
+        (K.seen out.new) result }
 {
     let mut device = MemoryEeprom::new(cells);
     if let Err(error) = run_script(alloc, lines, &mut device, copro, out) {

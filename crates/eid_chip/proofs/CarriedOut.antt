@@ -15,7 +15,7 @@ use Rattle.eid_chip.specs.declared.session.Session.{Session}
 use Rattle.eid_chip.specs.declared.session.Run.TheVariants as runs
 use Rattle.eid_chip.specs.declared.reaction.Reaction.{Reaction}
 use Rattle.eid_chip.specs.States.{state, memory, phase_of, next_of}
-use Rattle.eid_chip.specs.Steps.{Told, known}
+use Rattle.eid_chip.specs.Steps.{IsAnsweredByKind, known}
 use Rattle.eid_model.specs.Runs as phases
 use Rattle.eid_chip.specs.Transitions.{state_carried_out, two_messages_later}
 
@@ -32,7 +32,7 @@ idle_state s m channel run kept =
     rw (phase, next, kept) refl
 
 -- a command of a kind without questions that fails no rule
-pub carried : (kind : Kind) (kept : FullRecord) (old : State) (c : PlainCommand) (r : Reaction) (reply : PlainReply) → question_of (Some kind) (known kind kept old c []) ≡ None → first_failed (kind_rules ++ answer_rules ++ proof_rules) (known kind kept old c []) ≡ None → r.rule.0 ≡ 0 → r.opened ≡ None → reply ≡ success_of kind (known kind kept old c []) → state r.session (option_map two_messages_later old.channel) ≡ state_carried_out kind c [] old → Told kind kept old c [] r reply
+pub carried : (kind : Kind) (kept : FullRecord) (old : State) (c : PlainCommand) (r : Reaction) (reply : PlainReply) → question_of (Some kind) (known kind kept old c []) ≡ None → first_failed (kind_rules ++ answer_rules ++ proof_rules) (known kind kept old c []) ≡ None → r.rule.0 ≡ 0 → r.opened ≡ None → reply ≡ success_of kind (known kind kept old c []) → state r.session (option_map two_messages_later old.channel) ≡ state_carried_out kind c [] old → IsAnsweredByKind kind kept old c [] r reply
 carried kind kept old c r reply silent passes rule opened answered left = record {
   asked = unasked_at (is_none (first_failed (kind_rules ++ answer_rules) (known kind kept old c []))) _ silent;
   ended = ap (λ (f : Option RuleRow). outcome_by f (known kind kept old c [])) passes ∙ cc;

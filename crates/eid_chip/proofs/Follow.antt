@@ -15,11 +15,11 @@ use Rattle.eid_model.specs.Kinds.{kind_named, step_after}
 use Rattle.eid_model.specs.Moments.{PlainMoment, on, live, ends_session_by}
 use Rattle.eid_model.specs.Runs.{Step, Phase, Idle, continued, next, phase, entered, run, answers_of}
 use Rattle.eid_model.specs.Sessions.{State, PaceMemory, state_in, state_of, fresh, selects, names, selection, naming, selected, current, pace, pace_done, pace_by, memory_of, keys_of, channel_keys, commands_since_opening, channel_after, channel}
-use Rattle.eid_model.specs.Rules.{Heard, NoCommand, MissingObjects, WrongObjects, Command, Situation}
-use Rattle.eid_model.specs.Answers.{Outcome, outcome, question, due, situation, kind_heard, command_of}
-use Rattle.eid_model.specs.Legal.{IsHeard, AreAsked, IsHandled, answered, lost_in, situation_after}
+use Rattle.eid_model.specs.Rules.{Incoming, NoCommand, MissingObjects, WrongObjects, OfCommand, Situation}
+use Rattle.eid_model.specs.Answers.{Outcome, outcome, question, due, situation, kind_incoming, command_of}
+use Rattle.eid_model.specs.Legal.{IsReadAs, AreAsked, IsHandled, answered, lost_in, situation_after}
 use Rattle.eid_model.specs.Ledger.{kept, pending, first_of, all_committed, MayHold}
-use Rattle.eid_model.proofs.Books.{due_entered, due_heard, stood_answered, stood_lost}
+use Rattle.eid_model.proofs.Books.{due_entered, due_incoming, stood_answered, stood_lost}
 use Rattle.eid_chip.specs.Transitions.{state_answered, state_carried_out, state_refused, two_messages_later}
 use Rattle.eid_apdu.specs.Answer.{PlainReply}
 use Rattle.eid_chip.specs.declared.reaction.Reaction.{Reaction}
@@ -131,16 +131,16 @@ answered_at rule None c answers old = same (rule == 0) (state_refused old)
     same false s = refl
 answered_at rule (Some kind) c answers old = refl
 
-unheard : (carried : Bool) (answers : List Answer) (session : List PlainMoment) → more (if carried then None else None) None answers session ≡ state_refused (state_in session)
-unheard true answers session = more_none None answers session
-unheard false answers session = more_none None answers session
+unread : (carried : Bool) (answers : List Answer) (session : List PlainMoment) → more (if carried then None else None) None answers session ≡ state_refused (state_in session)
+unread true answers session = more_none None answers session
+unread false answers session = more_none None answers session
 
 -- the state of a session with one more moment
-pub state_more : (ch : Option ChannelState) (bytes : List ℕ) (heard : Heard) (asks : List Ask) (finished : ℕ) (o : Outcome) (session : List PlainMoment) → state_in (answered ch bytes heard asks finished o ∷ session) ≡ state_answered o.rule (kind_heard (state_in session) heard) (command_of heard) (answers_of asks) (state_in session)
-state_more ch bytes NoCommand asks finished o session = unheard (o.rule == 0) (answers_of asks) session
-state_more ch bytes MissingObjects asks finished o session = unheard (o.rule == 0) (answers_of asks) session
-state_more ch bytes WrongObjects asks finished o session = unheard (o.rule == 0) (answers_of asks) session
-state_more ch bytes (Command c) asks finished o session =
+pub state_more : (ch : Option ChannelState) (bytes : List ℕ) (incoming : Incoming) (asks : List Ask) (finished : ℕ) (o : Outcome) (session : List PlainMoment) → state_in (answered ch bytes incoming asks finished o ∷ session) ≡ state_answered o.rule (kind_incoming (state_in session) incoming) (command_of incoming) (answers_of asks) (state_in session)
+state_more ch bytes NoCommand asks finished o session = unread (o.rule == 0) (answers_of asks) session
+state_more ch bytes MissingObjects asks finished o session = unread (o.rule == 0) (answers_of asks) session
+state_more ch bytes WrongObjects asks finished o session = unread (o.rule == 0) (answers_of asks) session
+state_more ch bytes (OfCommand c) asks finished o session =
     more_at (o.rule == 0) (kind_named (next (run session)) c) c (answers_of asks) session
     ∙ answered_at o.rule (kind_named (next (run session)) c) c (answers_of asks) (state_in session)
 
@@ -157,74 +157,74 @@ abbrev pub Holds : FullRecord → List PlainMoment → List ℕ → Type 0
 Holds opening moments cells = MayHold (pending opening moments) (kept opening moments) (stands cells)
 
 -- what the rules say in the situation that the chip sees, and in the one that the moments leave
-same_situation : {A : Type 0} (f : Situation → A) (seen full : FullRecord) (old left : State) (heard : Heard) (answers : List Answer) → seen ≡ full → old ≡ left → f (situation seen old heard answers) ≡ f (situation full left heard answers)
-same_situation f seen full old left heard answers same state =
-    ap (λ (k : FullRecord). f (situation k old heard answers)) same ∙ ap (λ (s : State). f (situation full s heard answers)) state
+same_situation : {A : Type 0} (f : Situation → A) (seen full : FullRecord) (old left : State) (incoming : Incoming) (answers : List Answer) → seen ≡ full → old ≡ left → f (situation seen old incoming answers) ≡ f (situation full left incoming answers)
+same_situation f seen full old left incoming answers same state =
+    ap (λ (k : FullRecord). f (situation k old incoming answers)) same ∙ ap (λ (s : State). f (situation full s incoming answers)) state
 
 -- A chip with power whose command was answered makes a legal moment, after which the chip is on, its state is what the
 -- moments leave, and the cells hold the record kept.
-pub responded : (old : State) (opening : FullRecord) (before : List PlainMoment) (bytes : List ℕ) (heard : Heard) (asks : List Ask) (r : Reaction) (finished : ℕ) (reply : PlainReply) (was now : World)
-    → on before ≡ true → old ≡ state_of opening before → held was.cells ≡ kept opening before → IsHeard old.channel bytes heard → IsEndedByRules old heard asks (Answered r finished) reply was now
-    → IsHandled opening before bytes (answered old.channel bytes heard asks finished (outcome_seen r reply))
-    × (on (answered old.channel bytes heard asks finished (outcome_seen r reply) ∷ before) ≡ true)
-    × (state_left r old.channel ≡ state_of opening (answered old.channel bytes heard asks finished (outcome_seen r reply) ∷ before))
-    × Holds opening (answered old.channel bytes heard asks finished (outcome_seen r reply) ∷ before) now.cells
-responded old opening before bytes heard asks r finished reply was now power is same hears ended =
+pub responded : (old : State) (opening : FullRecord) (before : List PlainMoment) (bytes : List ℕ) (incoming : Incoming) (asks : List Ask) (r : Reaction) (finished : ℕ) (reply : PlainReply) (was now : World)
+    → on before ≡ true → old ≡ state_of opening before → held was.cells ≡ kept opening before → IsReadAs old.channel bytes incoming → IsEndedByRules old incoming asks (Answered r finished) reply was now
+    → IsHandled opening before bytes (answered old.channel bytes incoming asks finished (outcome_seen r reply))
+    × (on (answered old.channel bytes incoming asks finished (outcome_seen r reply) ∷ before) ≡ true)
+    × (state_left r old.channel ≡ state_of opening (answered old.channel bytes incoming asks finished (outcome_seen r reply) ∷ before))
+    × Holds opening (answered old.channel bytes incoming asks finished (outcome_seen r reply) ∷ before) now.cells
+responded old opening before bytes incoming asks r finished reply was now power is same reads ended =
     let full = kept opening before in
-    let m : PlainMoment = answered old.channel bytes heard asks finished (outcome_seen r reply) in
+    let m : PlainMoment = answered old.channel bytes incoming asks finished (outcome_seen r reply) in
     let same_channel : old.channel ≡ channel (live before) = ap (λ (s : State). s.channel) is in
-    let effects : List PlainEffect = due (situation (held was.cells) old heard (answers_of asks)) in
-    let due_is : effects ≡ due (situation_after opening before heard (answers_of asks)) =
-    same_situation due (held was.cells) full old (state_of opening before) heard (answers_of asks) same is in
-    let ends : outcome_seen r reply ≡ outcome (situation_after opening before heard (answers_of asks)) =
-    sym ended.ended.1 ∙ same_situation outcome (held was.cells) full old (state_of opening before) heard (answers_of asks) same is in
-    let next_state : state_in (m ∷ live before) ≡ state_answered r.rule.0 (kind_heard old heard) (command_of heard) (answers_of asks) old =
-    state_more old.channel bytes heard asks finished (outcome_seen r reply) (live before)
-    ∙ ap (λ (s : State). state_answered r.rule.0 (kind_heard s heard) (command_of heard) (answers_of asks) s) (sym is) in
-    let made : m ≡ answered (channel (live before)) bytes heard asks (length (due (situation_after opening before heard (answers_of asks)))) (outcome (situation_after opening before heard (answers_of asks))) =
-    ap (λ (n : ℕ). answered old.channel bytes heard asks n (outcome_seen r reply)) (ended.ended.0 ∙ ap length due_is)
-    ∙ ap (λ (o : Outcome). answered old.channel bytes heard asks (length (due (situation_after opening before heard (answers_of asks)))) o) ends
-    ∙ ap (λ (c : Option ChannelState). answered c bytes heard asks (length (due (situation_after opening before heard (answers_of asks)))) (outcome (situation_after opening before heard (answers_of asks)))) same_channel in (
+    let effects : List PlainEffect = due (situation (held was.cells) old incoming (answers_of asks)) in
+    let due_is : effects ≡ due (situation_after opening before incoming (answers_of asks)) =
+    same_situation due (held was.cells) full old (state_of opening before) incoming (answers_of asks) same is in
+    let ends : outcome_seen r reply ≡ outcome (situation_after opening before incoming (answers_of asks)) =
+    sym ended.ended.1 ∙ same_situation outcome (held was.cells) full old (state_of opening before) incoming (answers_of asks) same is in
+    let next_state : state_in (m ∷ live before) ≡ state_answered r.rule.0 (kind_incoming old incoming) (command_of incoming) (answers_of asks) old =
+    state_more old.channel bytes incoming asks finished (outcome_seen r reply) (live before)
+    ∙ ap (λ (s : State). state_answered r.rule.0 (kind_incoming s incoming) (command_of incoming) (answers_of asks) s) (sym is) in
+    let made : m ≡ answered (channel (live before)) bytes incoming asks (length (due (situation_after opening before incoming (answers_of asks)))) (outcome (situation_after opening before incoming (answers_of asks))) =
+    ap (λ (n : ℕ). answered old.channel bytes incoming asks n (outcome_seen r reply)) (ended.ended.0 ∙ ap length due_is)
+    ∙ ap (λ (o : Outcome). answered old.channel bytes incoming asks (length (due (situation_after opening before incoming (answers_of asks)))) o) ends
+    ∙ ap (λ (c : Option ChannelState). answered c bytes incoming asks (length (due (situation_after opening before incoming (answers_of asks)))) (outcome (situation_after opening before incoming (answers_of asks)))) same_channel in (
       record {
         powered = λ on_is. record {
-          heard = heard;
-          hears = subst (λ (c : Option ChannelState). IsHeard c bytes heard) same_channel hears;
-          asked = subst (λ (s : State). AreAsked (λ given. question (situation full s heard given)) [] asks) is
-              (subst (λ (k : FullRecord). AreAsked (λ given. question (situation k old heard given)) [] asks) same ended.asked);
+          incoming = incoming;
+          reads = subst (λ (c : Option ChannelState). IsReadAs c bytes incoming) same_channel reads;
+          asked = subst (λ (s : State). AreAsked (λ given. question (situation full s incoming given)) [] asks) is
+              (subst (λ (k : FullRecord). AreAsked (λ given. question (situation k old incoming given)) [] asks) same ended.asked);
           moment = made;
         };
         unpowered = λ off_is. absurd (cc);
       },
       power,
       ended.next ∙ live_more (ends_session_by r.rule.0) r.rule.0 m before _ refl refl next_state,
-      stood_answered opening before m bytes reply effects (stands now.cells) refl refl power (due_heard full opening before heard m refl ∙ sym due_is) ended.ended.0
-          (due_entered (situation (held was.cells) old heard (answers_of asks)))
+      stood_answered opening before m bytes reply effects (stands now.cells) refl refl power (due_incoming full opening before incoming m refl ∙ sym due_is) ended.ended.0
+          (due_entered (situation (held was.cells) old incoming (answers_of asks)))
           (ended.leaves.1 ∙ ap (λ (k : FullRecord). Some (all_committed effects k)) same),
     )
 
 -- A chip with power that was lost in a commit makes a legal moment, after which there is no power, and the cells hold the
 -- record kept, or the one with the effect that is pending.
-pub was_lost : (old : State) (opening : FullRecord) (before : List PlainMoment) (bytes : List ℕ) (heard : Heard) (asks : List Ask) (finished : ℕ) (reply : PlainReply) (was now : World)
-    → on before ≡ true → old ≡ state_of opening before → held was.cells ≡ kept opening before → IsHeard old.channel bytes heard → IsEndedByRules old heard asks (Lost finished) reply was now
-    → IsHandled opening before bytes (lost_in bytes heard asks finished) × Holds opening (lost_in bytes heard asks finished ∷ before) now.cells
-was_lost old opening before bytes heard asks finished reply was now power is same hears ended =
+pub was_lost : (old : State) (opening : FullRecord) (before : List PlainMoment) (bytes : List ℕ) (incoming : Incoming) (asks : List Ask) (finished : ℕ) (reply : PlainReply) (was now : World)
+    → on before ≡ true → old ≡ state_of opening before → held was.cells ≡ kept opening before → IsReadAs old.channel bytes incoming → IsEndedByRules old incoming asks (Lost finished) reply was now
+    → IsHandled opening before bytes (lost_in bytes incoming asks finished) × Holds opening (lost_in bytes incoming asks finished ∷ before) now.cells
+was_lost old opening before bytes incoming asks finished reply was now power is same reads ended =
     let full = kept opening before in
-    let m : PlainMoment = lost_in bytes heard asks finished in
+    let m : PlainMoment = lost_in bytes incoming asks finished in
     let same_channel : old.channel ≡ channel (live before) = ap (λ (s : State). s.channel) is in
-    let effects : List PlainEffect = due (situation (held was.cells) old heard (answers_of asks)) in
-    let due_is : effects ≡ due (situation_after opening before heard (answers_of asks)) =
-    same_situation due (held was.cells) full old (state_of opening before) heard (answers_of asks) same is in (
+    let effects : List PlainEffect = due (situation (held was.cells) old incoming (answers_of asks)) in
+    let due_is : effects ≡ due (situation_after opening before incoming (answers_of asks)) =
+    same_situation due (held was.cells) full old (state_of opening before) incoming (answers_of asks) same is in (
       record {
         powered = λ on_is. record {
-          heard = heard;
-          hears = subst (λ (c : Option ChannelState). IsHeard c bytes heard) same_channel hears;
-          asked = subst (λ (s : State). AreAsked (λ given. question (situation full s heard given)) [] asks) is
-              (subst (λ (k : FullRecord). AreAsked (λ given. question (situation k old heard given)) [] asks) same ended.asked);
+          incoming = incoming;
+          reads = subst (λ (c : Option ChannelState). IsReadAs c bytes incoming) same_channel reads;
+          asked = subst (λ (s : State). AreAsked (λ given. question (situation full s incoming given)) [] asks) is
+              (subst (λ (k : FullRecord). AreAsked (λ given. question (situation k old incoming given)) [] asks) same ended.asked);
           moment = (refl, subst (λ (l : List PlainEffect). finished < length l) due_is ended.ended);
         };
         unpowered = λ off_is. absurd (cc);
       },
-      stood_lost opening before m bytes effects (stands now.cells) refl refl power (due_heard full opening before heard m refl ∙ sym due_is)
-          (due_entered (situation (held was.cells) old heard (answers_of asks)))
+      stood_lost opening before m bytes effects (stands now.cells) refl refl power (due_incoming full opening before incoming m refl ∙ sym due_is)
+          (due_entered (situation (held was.cells) old incoming (answers_of asks)))
           (subst (λ (k : FullRecord). MayHold (first_of (drop finished effects)) (all_committed (take finished effects) k) (stands now.cells)) same ended.leaves.0),
     )

@@ -17,9 +17,9 @@ use Rattle.eid_model.specs.declared.kind.Kind.{Kind}
 use Rattle.eid_model.specs.Kinds.{kind_named}
 use Rattle.eid_model.specs.Runs.{answers_of}
 use Rattle.eid_model.specs.Sessions.{State}
-use Rattle.eid_model.specs.Rules.{Heard, Command, plain_of, Situation, RuleRow, MAX_REQUEST, hearing_rules, naming_rules, request_rules, kind_rules, answer_rules, proof_rules, concerns, first_failed}
-use Rattle.eid_model.specs.Answers.{Outcome, outcome, outcome_of, outcome_by, question, question_by, question_of, due, due_by, due_of, situation, kind_heard, command_of, status_alone}
-use Rattle.eid_model.specs.Legal.{AreAsked, IsHeard}
+use Rattle.eid_model.specs.Rules.{Incoming, OfCommand, plain_of, Situation, RuleRow, MAX_REQUEST, transport_rules, naming_rules, request_rules, kind_rules, answer_rules, proof_rules, concerns, first_failed}
+use Rattle.eid_model.specs.Answers.{Outcome, outcome, outcome_of, outcome_by, question, question_by, question_of, due, due_by, due_of, situation, kind_incoming, command_of, status_alone}
+use Rattle.eid_model.specs.Legal.{AreAsked, IsReadAs}
 use Rattle.eid_model.proofs.Books.{nothing_due, nothing_due_by}
 use Rattle.eid_chip.specs.Transitions.{state_answered, state_carried_out, state_refused}
 use Rattle.eid_chip.specs.declared.reaction.Reaction.{Reaction}
@@ -29,7 +29,7 @@ use Rattle.eid_chip.specs.declared.session.Session.{Session}
 use Rattle.eid_chip.specs.Commits.{World, world, Wrote, Leaves}
 use Rattle.eid_chip.specs.Held.{held}
 use Rattle.eid_chip.specs.States.{state}
-use Rattle.eid_chip.specs.Steps.{PlainRefusal, refusal_by, known, heard_command, outcome_seen, state_left, state_due, Stepped, Performed, Answers, Reacts, IsEnding, IsNext, IsEndedByKind, IsEndedByRules, Responds, rule_of}
+use Rattle.eid_chip.specs.Steps.{PlainRefusal, refusal_by, known, with_command, outcome_seen, state_left, state_due, Stepped, Performed, IsAnsweredByRules, Reacts, IsEnding, IsNext, IsEndedByKind, IsEndedByRules, Responds, rule_of}
 use Rattle.eid_chip.proofs.HeldFiles.{held_stands}
 use Rattle.eid_chip.proofs.Unasked.{not_asked}
 
@@ -62,36 +62,36 @@ pub some_failed : (rows more : List RuleRow) (s : Situation) (r : PlainRefusal) 
 some_failed [] more s r e = absurd (cc)
 some_failed (row ∷ rows) more s r e = some_at (concerns row.kinds s.kind && not (row.holds s)) row rows more s r (some_failed rows more s r) e
 
--- what was heard is a command: the rules on hearing hold
-heard_so : (kept : FullRecord) (old : State) (c : PlainCommand) (answers : List Answer) → refusal_by hearing_rules (heard_command kept old c answers) ≡ None
-heard_so kept old c answers = refl
+-- what was incoming is a command: the rules on hearing hold
+incoming_so : (kept : FullRecord) (old : State) (c : PlainCommand) (answers : List Answer) → refusal_by transport_rules (with_command kept old c answers) ≡ None
+incoming_so kept old c answers = refl
 
 -- only the rules of the kind and the later ones are left
-late_rules : (more : List RuleRow) (kept : FullRecord) (old : State) (c : PlainCommand) (answers : List Answer) → refusal_by naming_rules (heard_command kept old c answers) ≡ None → refusal_by request_rules (heard_command kept old c answers) ≡ None
-    → first_failed (hearing_rules ++ naming_rules ++ request_rules ++ kind_rules ++ more) (heard_command kept old c answers) ≡ first_failed (kind_rules ++ more) (heard_command kept old c answers)
+late_rules : (more : List RuleRow) (kept : FullRecord) (old : State) (c : PlainCommand) (answers : List Answer) → refusal_by naming_rules (with_command kept old c answers) ≡ None → refusal_by request_rules (with_command kept old c answers) ≡ None
+    → first_failed (transport_rules ++ naming_rules ++ request_rules ++ kind_rules ++ more) (with_command kept old c answers) ≡ first_failed (kind_rules ++ more) (with_command kept old c answers)
 late_rules more kept old c answers names requests =
-    let s = heard_command kept old c answers in
-    passed hearing_rules (naming_rules ++ request_rules ++ kind_rules ++ more) s (heard_so kept old c answers)
+    let s = with_command kept old c answers in
+    passed transport_rules (naming_rules ++ request_rules ++ kind_rules ++ more) s (incoming_so kept old c answers)
     ∙ passed naming_rules (request_rules ++ kind_rules ++ more) s names ∙ passed request_rules (kind_rules ++ more) s requests
 
 -- a situation in which the kind was found
-known_so : (kept : FullRecord) (old : State) (c : PlainCommand) (kind : Kind) (answers : List Answer) → kind_named old.next c ≡ Some kind → heard_command kept old c answers ≡ known kind kept old c answers
+known_so : (kept : FullRecord) (old : State) (c : PlainCommand) (kind : Kind) (answers : List Answer) → kind_named old.next c ≡ Some kind → with_command kept old c answers ≡ known kind kept old c answers
 known_so kept old c kind answers named =
-    ap (λ (k : Option Kind). record { heard = Command c; command = c; kind = k; kept = kept; state = old; answers = answers }) named
+    ap (λ (k : Option Kind). record { incoming = OfCommand c; command = c; kind = k; kept = kept; state = old; answers = answers }) named
 
 -- the questions and the outcome are those of the kind
-kind_question : (kept : FullRecord) (old : State) (c : PlainCommand) (kind : Kind) (answers : List Answer) → kind_named old.next c ≡ Some kind → refusal_by naming_rules (heard_command kept old c answers) ≡ None → refusal_by request_rules (heard_command kept old c answers) ≡ None
-    → question (heard_command kept old c answers) ≡ question_by kind_rules (known kind kept old c answers)
+kind_question : (kept : FullRecord) (old : State) (c : PlainCommand) (kind : Kind) (answers : List Answer) → kind_named old.next c ≡ Some kind → refusal_by naming_rules (with_command kept old c answers) ≡ None → refusal_by request_rules (with_command kept old c answers) ≡ None
+    → question (with_command kept old c answers) ≡ question_by kind_rules (known kind kept old c answers)
 unfolding question
 kind_question kept old c kind answers named names requests =
-    ap (λ (f : Option RuleRow). if is_none f then question_of (heard_command kept old c answers).kind (heard_command kept old c answers) else None) (late_rules answer_rules kept old c answers names requests)
+    ap (λ (f : Option RuleRow). if is_none f then question_of (with_command kept old c answers).kind (with_command kept old c answers) else None) (late_rules answer_rules kept old c answers names requests)
     ∙ ap (λ (s : Situation). question_by kind_rules s) (known_so kept old c kind answers named)
 
-kind_outcome : (kept : FullRecord) (old : State) (c : PlainCommand) (kind : Kind) (answers : List Answer) → kind_named old.next c ≡ Some kind → refusal_by naming_rules (heard_command kept old c answers) ≡ None → refusal_by request_rules (heard_command kept old c answers) ≡ None
-    → outcome (heard_command kept old c answers) ≡ outcome_of kind_rules (known kind kept old c answers)
+kind_outcome : (kept : FullRecord) (old : State) (c : PlainCommand) (kind : Kind) (answers : List Answer) → kind_named old.next c ≡ Some kind → refusal_by naming_rules (with_command kept old c answers) ≡ None → refusal_by request_rules (with_command kept old c answers) ≡ None
+    → outcome (with_command kept old c answers) ≡ outcome_of kind_rules (known kind kept old c answers)
 unfolding outcome
 kind_outcome kept old c kind answers named names requests =
-    ap (λ (f : Option RuleRow). outcome_by f (heard_command kept old c answers)) (late_rules (answer_rules ++ proof_rules) kept old c answers names requests)
+    ap (λ (f : Option RuleRow). outcome_by f (with_command kept old c answers)) (late_rules (answer_rules ++ proof_rules) kept old c answers names requests)
     ∙ ap (λ (s : Situation). outcome_of kind_rules s) (known_so kept old c kind answers named)
 
 -- questions by two functions that agree
@@ -117,17 +117,17 @@ unfolding AreOthers
 others_fail [] s others = refl
 others_fail (row ∷ rows) s others = rule_at (concerns row.kinds s.kind && not (row.holds s)) row rows s others.0 (others_fail rows s others.1)
 
--- a command that was heard fails none of them
-pub command_rule : (kept : FullRecord) (old : State) (c : PlainCommand) (answers : List Answer) (o : Outcome) → outcome (heard_command kept old c answers) ≡ o → is_on_objects o.rule ≡ false
+-- a command that was incoming fails none of them
+pub command_rule : (kept : FullRecord) (old : State) (c : PlainCommand) (answers : List Answer) (o : Outcome) → outcome (with_command kept old c answers) ≡ o → is_on_objects o.rule ≡ false
 unfolding outcome AreOthers
 command_rule kept old c answers o is =
-    let s = heard_command kept old c answers in
+    let s = with_command kept old c answers in
     let later = naming_rules ++ request_rules ++ kind_rules ++ answer_rules ++ proof_rules in
-    let found : first_failed (hearing_rules ++ later) s ≡ first_failed later s = passed hearing_rules later s refl in
+    let found : first_failed (transport_rules ++ later) s ≡ first_failed later s = passed transport_rules later s refl in
     ap (λ (x : Outcome). is_on_objects x.rule) (sym is) ∙ ap (λ (f : Option RuleRow). is_on_objects (outcome_by f s).rule) found
     ∙ others_fail later s (refl, (refl, (refl, (refl, (refl, (refl, (refl, (refl, (refl, (refl, (refl, (refl, (refl, (refl, (refl, (refl, (refl, _)))))))))))))))))
 
-pub command_answered : (old : State) (c : PlainCommand) (asks : List Ask) (ending : Ending) (reply : PlainReply) (before after : World) → IsEndedByRules old (Command c) asks ending reply before after → is_on_objects (rule_of ending) ≡ false
+pub command_answered : (old : State) (c : PlainCommand) (asks : List Ask) (ending : Ending) (reply : PlainReply) (before after : World) → IsEndedByRules old (OfCommand c) asks ending reply before after → is_on_objects (rule_of ending) ≡ false
 command_answered old c asks (Answered r finished) reply before after did = command_rule (held before.cells) old c (answers_of asks) (outcome_seen r reply) did.ended.1
 command_answered old c asks (Lost finished) reply before after did = refl
 
@@ -145,63 +145,63 @@ refused_state rule None c answers old e = refl
 refused_state rule (Some kind) c answers old e = if_not (rule == 0) (state_carried_out kind c answers old) (state_refused old) e
 
 -- a refusal puts no question, and is the answer
-pub refused_answers : (rows more later : List RuleRow) (kept : FullRecord) (old : State) (heard : Heard) (refused : PlainRefusal) (r : Reaction) (reply : PlainReply) → refusal_by rows (situation kept old heard []) ≡ Some refused
-    → question (situation kept old heard []) ≡ (if is_none (first_failed (rows ++ more) (situation kept old heard [])) then question_of (situation kept old heard []).kind (situation kept old heard []) else None)
-    → outcome (situation kept old heard []) ≡ outcome_by (first_failed (rows ++ later) (situation kept old heard [])) (situation kept old heard [])
+pub refused_answers : (rows more later : List RuleRow) (kept : FullRecord) (old : State) (incoming : Incoming) (refused : PlainRefusal) (r : Reaction) (reply : PlainReply) → refusal_by rows (situation kept old incoming []) ≡ Some refused
+    → question (situation kept old incoming []) ≡ (if is_none (first_failed (rows ++ more) (situation kept old incoming [])) then question_of (situation kept old incoming []).kind (situation kept old incoming []) else None)
+    → outcome (situation kept old incoming []) ≡ outcome_by (first_failed (rows ++ later) (situation kept old incoming [])) (situation kept old incoming [])
     → (refused.rule == 0) ≡ false → r.rule.0 ≡ refused.rule → reply ≡ status_alone refused.status
-    → state_left r old.channel ≡ state_due refused.rule (state_refused old) → Answers kept old heard [] r reply
-refused_answers rows more later kept old heard refused r reply fails asks ends is_one rule answered left =
-    let s = situation kept old heard [] in
+    → state_left r old.channel ≡ state_due refused.rule (state_refused old) → IsAnsweredByRules kept old incoming [] r reply
+refused_answers rows more later kept old incoming refused r reply fails asks ends is_one rule answered left =
+    let s = situation kept old incoming [] in
     let same : refused_so refused ≡ outcome_seen r reply = rw (rule, answered) refl in
     record {
       asked = asks ∙ if_not (is_none (first_failed (rows ++ more) s)) (question_of s.kind s) None (some_failed rows more s refused fails);
       ended = ends ∙ failed rows later s refused fails ∙ same;
       left = left ∙ ap (λ (n : ℕ). state_due n (state_refused old)) (sym rule)
-          ∙ ap (λ (x : State). state_due r.rule.0 x) (sym (refused_state r.rule.0 (kind_heard old heard) (command_of heard) [] old (ap (λ (n : ℕ). n == 0) rule ∙ is_one)));
+          ∙ ap (λ (x : State). state_due r.rule.0 x) (sym (refused_state r.rule.0 (kind_incoming old incoming) (command_of incoming) [] old (ap (λ (n : ℕ). n == 0) rule ∙ is_one)));
     }
 
 -- a command whose class, instruction or parameters are refused
-pub name_refused : (kept : FullRecord) (old : State) (c : PlainCommand) (refused : PlainRefusal) (r : Reaction) (reply : PlainReply) → refusal_by naming_rules (heard_command kept old c []) ≡ Some refused
+pub name_refused : (kept : FullRecord) (old : State) (c : PlainCommand) (refused : PlainRefusal) (r : Reaction) (reply : PlainReply) → refusal_by naming_rules (with_command kept old c []) ≡ Some refused
     → (refused.rule == 0) ≡ false → r.rule.0 ≡ refused.rule → reply ≡ status_alone refused.status
-    → state_left r old.channel ≡ state_due refused.rule (state_refused old) → Answers kept old (Command c) [] r reply
+    → state_left r old.channel ≡ state_due refused.rule (state_refused old) → IsAnsweredByRules kept old (OfCommand c) [] r reply
 unfolding question outcome
 name_refused kept old c refused r reply fails is_one rule answered left =
-    let s = heard_command kept old c [] in
-    refused_answers naming_rules (request_rules ++ kind_rules ++ answer_rules) (request_rules ++ kind_rules ++ answer_rules ++ proof_rules) kept old (Command c) refused r reply fails
-    (ap (λ (f : Option RuleRow). if is_none f then question_of s.kind s else None) (passed hearing_rules (naming_rules ++ request_rules ++ kind_rules ++ answer_rules) s refl))
-    (ap (λ (f : Option RuleRow). outcome_by f s) (passed hearing_rules (naming_rules ++ request_rules ++ kind_rules ++ answer_rules ++ proof_rules) s refl))
+    let s = with_command kept old c [] in
+    refused_answers naming_rules (request_rules ++ kind_rules ++ answer_rules) (request_rules ++ kind_rules ++ answer_rules ++ proof_rules) kept old (OfCommand c) refused r reply fails
+    (ap (λ (f : Option RuleRow). if is_none f then question_of s.kind s else None) (passed transport_rules (naming_rules ++ request_rules ++ kind_rules ++ answer_rules) s refl))
+    (ap (λ (f : Option RuleRow). outcome_by f s) (passed transport_rules (naming_rules ++ request_rules ++ kind_rules ++ answer_rules ++ proof_rules) s refl))
     is_one rule answered left
 
 -- a command of some kind in a request that is refused
-pub request_refused : (kept : FullRecord) (old : State) (c : PlainCommand) (refused : PlainRefusal) (r : Reaction) (reply : PlainReply) → refusal_by naming_rules (heard_command kept old c []) ≡ None → refusal_by request_rules (heard_command kept old c []) ≡ Some refused
+pub request_refused : (kept : FullRecord) (old : State) (c : PlainCommand) (refused : PlainRefusal) (r : Reaction) (reply : PlainReply) → refusal_by naming_rules (with_command kept old c []) ≡ None → refusal_by request_rules (with_command kept old c []) ≡ Some refused
     → (refused.rule == 0) ≡ false → r.rule.0 ≡ refused.rule → reply ≡ status_alone refused.status
-    → state_left r old.channel ≡ state_due refused.rule (state_refused old) → Answers kept old (Command c) [] r reply
+    → state_left r old.channel ≡ state_due refused.rule (state_refused old) → IsAnsweredByRules kept old (OfCommand c) [] r reply
 unfolding question outcome
 request_refused kept old c refused r reply names fails is_one rule answered left =
-    let s = heard_command kept old c [] in
-    refused_answers request_rules (kind_rules ++ answer_rules) (kind_rules ++ answer_rules ++ proof_rules) kept old (Command c) refused r reply fails
+    let s = with_command kept old c [] in
+    refused_answers request_rules (kind_rules ++ answer_rules) (kind_rules ++ answer_rules ++ proof_rules) kept old (OfCommand c) refused r reply fails
     (ap (λ (f : Option RuleRow). if is_none f then question_of s.kind s else None)
-    (passed hearing_rules (naming_rules ++ request_rules ++ kind_rules ++ answer_rules) s refl ∙ passed naming_rules (request_rules ++ kind_rules ++ answer_rules) s names))
+    (passed transport_rules (naming_rules ++ request_rules ++ kind_rules ++ answer_rules) s refl ∙ passed naming_rules (request_rules ++ kind_rules ++ answer_rules) s names))
     (ap (λ (f : Option RuleRow). outcome_by f s)
-    (passed hearing_rules (naming_rules ++ request_rules ++ kind_rules ++ answer_rules ++ proof_rules) s refl ∙ passed naming_rules (request_rules ++ kind_rules ++ answer_rules ++ proof_rules) s names))
+    (passed transport_rules (naming_rules ++ request_rules ++ kind_rules ++ answer_rules ++ proof_rules) s refl ∙ passed naming_rules (request_rules ++ kind_rules ++ answer_rules ++ proof_rules) s names))
     is_one rule answered left
 
 -- bytes that are no command, or whose objects of secure messaging are missing or wrong
-pub hearing_refused : (kept : FullRecord) (old : State) (heard : Heard) (refused : PlainRefusal) (r : Reaction) (reply : PlainReply) → refusal_by hearing_rules (situation kept old heard []) ≡ Some refused
+pub transport_refused : (kept : FullRecord) (old : State) (incoming : Incoming) (refused : PlainRefusal) (r : Reaction) (reply : PlainReply) → refusal_by transport_rules (situation kept old incoming []) ≡ Some refused
     → (refused.rule == 0) ≡ false → r.rule.0 ≡ refused.rule → reply ≡ status_alone refused.status
-    → state_left r old.channel ≡ state_due refused.rule (state_refused old) → Answers kept old heard [] r reply
+    → state_left r old.channel ≡ state_due refused.rule (state_refused old) → IsAnsweredByRules kept old incoming [] r reply
 unfolding question outcome
-hearing_refused kept old heard refused r reply fails is_one rule answered left =
-    refused_answers hearing_rules (naming_rules ++ request_rules ++ kind_rules ++ answer_rules) (naming_rules ++ request_rules ++ kind_rules ++ answer_rules ++ proof_rules) kept old heard refused r reply fails
+transport_refused kept old incoming refused r reply fails is_one rule answered left =
+    refused_answers transport_rules (naming_rules ++ request_rules ++ kind_rules ++ answer_rules) (naming_rules ++ request_rules ++ kind_rules ++ answer_rules ++ proof_rules) kept old incoming refused r reply fails
     refl refl is_one rule answered left
 
 -- a request that is too long, and one that is not
-pub long_request : (kept : FullRecord) (old : State) (c : PlainCommand) (answers : List Answer) → MAX_REQUEST < length c.body → refusal_by request_rules (heard_command kept old c answers) ≡ Some (record { rule = 8; status = 0x6700 })
+pub long_request : (kept : FullRecord) (old : State) (c : PlainCommand) (answers : List Answer) → MAX_REQUEST < length c.body → refusal_by request_rules (with_command kept old c answers) ≡ Some (record { rule = 8; status = 0x6700 })
 long_request kept old c answers long =
     let over : nat_le (length c.body) MAX_REQUEST ≡ false = grind (arith, nat_tests) in
     rw over refl
 
-pub request_passes : (kept : FullRecord) (old : State) (c : PlainCommand) (answers : List Answer) → length c.body ≤ MAX_REQUEST → refusal_by request_rules (heard_command kept old c answers) ≡ None
+pub request_passes : (kept : FullRecord) (old : State) (c : PlainCommand) (answers : List Answer) → length c.body ≤ MAX_REQUEST → refusal_by request_rules (with_command kept old c answers) ≡ None
 request_passes kept old c answers fits =
     let within : nat_le (length c.body) MAX_REQUEST ≡ true = grind (arith, nat_tests) in
     rw within refl
@@ -209,26 +209,26 @@ request_passes kept old c answers fits =
 -- ---- how a command ends that may commit
 
 -- the effects due are those of the kind
-kind_due : (kept : FullRecord) (old : State) (c : PlainCommand) (kind : Kind) (answers : List Answer) → kind_named old.next c ≡ Some kind → refusal_by naming_rules (heard_command kept old c answers) ≡ None → refusal_by request_rules (heard_command kept old c answers) ≡ None
-    → due (heard_command kept old c answers) ≡ due_by kind_rules (known kind kept old c answers)
+kind_due : (kept : FullRecord) (old : State) (c : PlainCommand) (kind : Kind) (answers : List Answer) → kind_named old.next c ≡ Some kind → refusal_by naming_rules (with_command kept old c answers) ≡ None → refusal_by request_rules (with_command kept old c answers) ≡ None
+    → due (with_command kept old c answers) ≡ due_by kind_rules (known kind kept old c answers)
 unfolding due
 kind_due kept old c kind answers named names requests =
-    ap (λ (f : Option RuleRow). if is_none f then due_of (heard_command kept old c answers).kind (heard_command kept old c answers) else []) (late_rules answer_rules kept old c answers names requests)
+    ap (λ (f : Option RuleRow). if is_none f then due_of (with_command kept old c answers).kind (with_command kept old c answers) else []) (late_rules answer_rules kept old c answers names requests)
     ∙ ap (λ (s : Situation). due_by kind_rules s) (known_so kept old c kind answers named)
 
 -- a command of a known kind, in a request that can be answered, ends by the rules of its kind
 pub ended_by_rules : (old : State) (c : PlainCommand) (kind : Kind) (asks : List Ask) (ending : Ending) (reply : PlainReply) (before after : World) → kind_named old.next c ≡ Some kind
-    → ((answers : List Answer) → refusal_by naming_rules (heard_command (held before.cells) old c answers) ≡ None)
-    → ((answers : List Answer) → refusal_by request_rules (heard_command (held before.cells) old c answers) ≡ None)
-    → IsEndedByKind kind old c asks ending reply before after → IsEndedByRules old (Command c) asks ending reply before after
+    → ((answers : List Answer) → refusal_by naming_rules (with_command (held before.cells) old c answers) ≡ None)
+    → ((answers : List Answer) → refusal_by request_rules (with_command (held before.cells) old c answers) ≡ None)
+    → IsEndedByKind kind old c asks ending reply before after → IsEndedByRules old (OfCommand c) asks ending reply before after
 ended_by_rules old c kind asks ending reply before after named names requests did =
     let kept = held before.cells in
     let effects = sym (kind_due kept old c kind (answers_of asks) named (names (answers_of asks)) (requests (answers_of asks))) in
     let outcome_is = sym (kind_outcome kept old c kind (answers_of asks) named (names (answers_of asks)) (requests (answers_of asks))) in
     record {
-      asked = asked_alike (λ answers. question_by kind_rules (known kind kept old c answers)) (λ answers. question (heard_command kept old c answers))
+      asked = asked_alike (λ answers. question_by kind_rules (known kind kept old c answers)) (λ answers. question (with_command kept old c answers))
           (λ answers. sym (kind_question kept old c kind answers named (names answers) (requests answers))) [] asks did.asked;
-      ended = subst (λ (l : List PlainEffect). IsEnding l (outcome (heard_command kept old c (answers_of asks))) ending reply) effects
+      ended = subst (λ (l : List PlainEffect). IsEnding l (outcome (with_command kept old c (answers_of asks))) ending reply) effects
           (subst (λ (o : Outcome). IsEnding (due_by kind_rules (known kind kept old c (answers_of asks))) o ending reply) outcome_is did.ended);
       next = subst (λ (k : Option Kind). IsNext (λ rule. state_answered rule k c (answers_of asks) old) ending old.channel) (sym named) did.next;
       leaves = subst (λ (l : List PlainEffect). Leaves l kept ending before after) effects did.leaves;
@@ -266,10 +266,10 @@ performed kind session c r reply before after store device cells fits stepped = 
 }
 
 -- a refusal before the kind is known
-pub refused_ends : (old : State) (heard : Heard) (r : Reaction) (reply : PlainReply) (copro : CoproSeen) (store : Store) (device : Device) (cells : List ℕ) → stored.Fits store device cells
-    → Answers (held cells) old heard [] r reply → IsEndedByRules old heard [] (Answered r 0) reply (world copro store device cells) (world copro store device cells)
-refused_ends old heard r reply copro store device cells fits answers =
-    let none = nothing_due (situation (held cells) old heard []) in
+pub refused_ends : (old : State) (incoming : Incoming) (r : Reaction) (reply : PlainReply) (copro : CoproSeen) (store : Store) (device : Device) (cells : List ℕ) → stored.Fits store device cells
+    → IsAnsweredByRules (held cells) old incoming [] r reply → IsEndedByRules old incoming [] (Answered r 0) reply (world copro store device cells) (world copro store device cells)
+refused_ends old incoming r reply copro store device cells fits answers =
+    let none = nothing_due (situation (held cells) old incoming []) in
     record {
       asked = answers.asked;
       ended = (sym (ap length none), answers.ended);
@@ -279,28 +279,28 @@ refused_ends old heard r reply copro store device cells fits answers =
 
 -- and so a command that is refused
 pub refused_reacts : (session : Session) (c : PlainCommand) (ending : Ending) (r : Reaction) (reply : PlainReply) (copro : CoproSeen) (store : Store) (device : Device) (cells : List ℕ)
-    → stored.Fits store device cells → ending ≡ Answered r 0 → ((channel : Option ChannelState) → Answers (held cells) (state session channel) (Command c) [] r reply)
+    → stored.Fits store device cells → ending ≡ Answered r 0 → ((channel : Option ChannelState) → IsAnsweredByRules (held cells) (state session channel) (OfCommand c) [] r reply)
     → Reacts session c ending reply (world copro store device cells) (world copro store device cells)
 refused_reacts session c ending r reply copro store device cells fits ends answers = record {
   asks = [];
   were_asked = not_asked copro;
   ended = λ channel.
-      subst (λ (e : Ending). IsEndedByRules (state session channel) (Command c) [] e reply (world copro store device cells) (world copro store device cells)) (sym ends)
-      (refused_ends (state session channel) (Command c) r reply copro store device cells fits (answers channel));
+      subst (λ (e : Ending). IsEndedByRules (state session channel) (OfCommand c) [] e reply (world copro store device cells) (world copro store device cells)) (sym ends)
+      (refused_ends (state session channel) (OfCommand c) r reply copro store device cells fits (answers channel));
   layout = refl;
 }
 
--- and so a response to bytes of which no command was heard
-pub refused_responds : (heard : Heard) (session : Session) (channel : Option ChannelState) (bytes : List ℕ) (plain : Option PlainCommand) (ending : Ending) (r : Reaction) (reply : PlainReply) (copro : CoproSeen) (store : Store) (device : Device) (cells : List ℕ)
-    → stored.Fits store device cells → IsHeard channel bytes heard → plain_of heard ≡ None → plain ≡ None → ending ≡ Answered r 0 → Answers (held cells) (state session channel) heard [] r reply
+-- and so a response to bytes of which no command was incoming
+pub refused_responds : (incoming : Incoming) (session : Session) (channel : Option ChannelState) (bytes : List ℕ) (plain : Option PlainCommand) (ending : Ending) (r : Reaction) (reply : PlainReply) (copro : CoproSeen) (store : Store) (device : Device) (cells : List ℕ)
+    → stored.Fits store device cells → IsReadAs channel bytes incoming → plain_of incoming ≡ None → plain ≡ None → ending ≡ Answered r 0 → IsAnsweredByRules (held cells) (state session channel) incoming [] r reply
     → Responds session channel bytes plain ending reply (world copro store device cells) (world copro store device cells)
-refused_responds heard session channel bytes plain ending r reply copro store device cells fits hears none is ends answers = record {
-  heard = heard;
-  hears = hears;
+refused_responds incoming session channel bytes plain ending r reply copro store device cells fits reads none is ends answers = record {
+  incoming = incoming;
+  reads = reads;
   is_plain = is ∙ sym none;
   asks = [];
   were_asked = not_asked copro;
-  ended = subst (λ (e : Ending). IsEndedByRules (state session channel) heard [] e reply (world copro store device cells) (world copro store device cells)) (sym ends)
-      (refused_ends (state session channel) heard r reply copro store device cells fits answers);
+  ended = subst (λ (e : Ending). IsEndedByRules (state session channel) incoming [] e reply (world copro store device cells) (world copro store device cells)) (sym ends)
+      (refused_ends (state session channel) incoming r reply copro store device cells fits answers);
   layout = refl;
 }

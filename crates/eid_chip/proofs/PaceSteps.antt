@@ -32,7 +32,7 @@ use Rattle.eid_chip.specs.Transitions.{state_answered, state_carried_out, state_
 use Rattle.eid_chip.specs.declared.reaction.Reaction.{Reaction}
 use Rattle.eid_chip.specs.declared.session.Session.{Session}
 use Rattle.eid_chip.specs.States.{state}
-use Rattle.eid_chip.specs.Steps.{Told, state_left, state_due, outcome_seen}
+use Rattle.eid_chip.specs.Steps.{IsAnsweredByKind, state_left, state_due, outcome_seen}
 
 -- the state where the run has come to another step, one command later
 abbrev moved : Option Kind → Phase → State → State
@@ -74,21 +74,21 @@ pub record WasUnformed (reaction : Reaction) (said : PlainReply) (old : State) :
 not_due : (rule : ℕ) (kind : Kind) (c : PlainCommand) (given : List Answer) (old : State) → rule ≡ 10 → state_due 10 (state_refused old) ≡ state_due rule (state_answered rule (Some kind) c given old)
 not_due rule kind c given old e = rw e refl
 
-pub no_empty_body : (kept : FullRecord) (old : State) (c : PlainCommand) (reaction : Reaction) (said : PlainReply) → bytes_eq c.body no_data ≡ false → WasUnformed reaction said old → Told EncryptedNonce kept old c [] reaction said
+pub no_empty_body : (kept : FullRecord) (old : State) (c : PlainCommand) (reaction : Reaction) (said : PlainReply) → bytes_eq c.body no_data ≡ false → WasUnformed reaction said old → IsAnsweredByKind EncryptedNonce kept old c [] reaction said
 no_empty_body kept old c reaction said body h = record {
   asked = rw body refl;
   ended = rw body (outcome_is 10 _ reaction said h.rule h.answered);
   left = h.state ∙ not_due reaction.rule.0 EncryptedNonce c [] old h.rule;
 }
 
-pub no_point_to_map : (kept : FullRecord) (old : State) (c : PlainCommand) (reaction : Reaction) (said : PlainReply) → holds_point 0x81 c.body ≡ false → WasUnformed reaction said old → Told MapNonce kept old c [] reaction said
+pub no_point_to_map : (kept : FullRecord) (old : State) (c : PlainCommand) (reaction : Reaction) (said : PlainReply) → holds_point 0x81 c.body ≡ false → WasUnformed reaction said old → IsAnsweredByKind MapNonce kept old c [] reaction said
 no_point_to_map kept old c reaction said body h = record {
   asked = rw body refl;
   ended = rw body (outcome_is 10 _ reaction said h.rule h.answered);
   left = h.state ∙ not_due reaction.rule.0 MapNonce c [] old h.rule;
 }
 
-pub no_point_to_agree : (kept : FullRecord) (old : State) (c : PlainCommand) (reaction : Reaction) (said : PlainReply) → holds_point 0x83 c.body ≡ false → WasUnformed reaction said old → Told PerformKeyAgreement kept old c [] reaction said
+pub no_point_to_agree : (kept : FullRecord) (old : State) (c : PlainCommand) (reaction : Reaction) (said : PlainReply) → holds_point 0x83 c.body ≡ false → WasUnformed reaction said old → IsAnsweredByKind PerformKeyAgreement kept old c [] reaction said
 no_point_to_agree kept old c reaction said body h = record {
   asked = rw body refl;
   ended = rw body (outcome_is 10 _ reaction said h.rule h.answered);
@@ -104,7 +104,7 @@ chosen_parts (Some s) choice e = (refl, at (s.reference == 2) _ password_rule e)
     at true given rule e = refl
     at false given rule e = absurd cc
 
-pub selected : (kept : FullRecord) (old : State) (c : PlainCommand) (choice : PlainChoice) (reaction : Reaction) (said : PlainReply) → Ok choice ≡ chosen_by (selection_in c.body) → WentOn reaction said old (Some EncryptedNonce) (Chose choice) (status_alone 0x9000) → Told SelectPace kept old c [] reaction said
+pub selected : (kept : FullRecord) (old : State) (c : PlainCommand) (choice : PlainChoice) (reaction : Reaction) (said : PlainReply) → Ok choice ≡ chosen_by (selection_in c.body) → WentOn reaction said old (Some EncryptedNonce) (Chose choice) (status_alone 0x9000) → IsAnsweredByKind SelectPace kept old c [] reaction said
 unfolding entered
 selected kept old c choice reaction said e h =
     let parts = chosen_parts (selection_in c.body) choice e in
@@ -121,7 +121,7 @@ both {A = A} {B = B} x a y b e =
     (ap (λ (p : A × B). p.0) pair, ap (λ (p : A × B). p.1) pair)
 
 -- a nonce was drawn, and sent
-pub nonce_sent : (kept : FullRecord) (old : State) (c : PlainCommand) (choice : PlainChoice) (end : NonceEnd) (sent : PlainNonceSent) (bytes : List ℕ) (reaction : Reaction) (said : PlainReply) → old.phase ≡ Chose choice → bytes_eq c.body no_data ≡ true → Ok (sent, bytes) ≡ nonce_given choice (digits_of kept.fields choice.password) end → WentOn reaction said old (Some MapNonce) (SentNonce sent) (data_alone (authentication_data 0x80 bytes)) → Told EncryptedNonce kept old c (nonce_asks end) reaction said
+pub nonce_sent : (kept : FullRecord) (old : State) (c : PlainCommand) (choice : PlainChoice) (end : NonceEnd) (sent : PlainNonceSent) (bytes : List ℕ) (reaction : Reaction) (said : PlainReply) → old.phase ≡ Chose choice → bytes_eq c.body no_data ≡ true → Ok (sent, bytes) ≡ nonce_given choice (digits_of kept.fields choice.password) end → WentOn reaction said old (Some MapNonce) (SentNonce sent) (data_alone (authentication_data 0x80 bytes)) → IsAnsweredByKind EncryptedNonce kept old c (nonce_asks end) reaction said
 unfolding entered
 nonce_sent kept old c choice NoNonce sent bytes reaction said at body e h = absurd cc
 nonce_sent kept old c choice (Drawn nonce) sent bytes reaction said at body e h =
@@ -134,7 +134,7 @@ nonce_sent kept old c choice (Drawn nonce) sent bytes reaction said at body e h 
     }
 
 -- a pair was drawn, and the nonce mapped to a base
-pub mapped_to : (kept : FullRecord) (old : State) (c : PlainCommand) (sent : PlainNonceSent) (peer : List ℕ) (end : MapEnd) (mapped : PlainMapped) (public : List ℕ) (reaction : Reaction) (said : PlainReply) → old.phase ≡ SentNonce sent → peer ≡ data_in c.body → holds_point 0x81 c.body ≡ true → Ok (mapped, public) ≡ map_given sent end → WentOn reaction said old (Some PerformKeyAgreement) (HasBase mapped) (data_alone (authentication_data 0x82 public)) → Told MapNonce kept old c (map_asks sent peer end) reaction said
+pub mapped_to : (kept : FullRecord) (old : State) (c : PlainCommand) (sent : PlainNonceSent) (peer : List ℕ) (end : MapEnd) (mapped : PlainMapped) (public : List ℕ) (reaction : Reaction) (said : PlainReply) → old.phase ≡ SentNonce sent → peer ≡ data_in c.body → holds_point 0x81 c.body ≡ true → Ok (mapped, public) ≡ map_given sent end → WentOn reaction said old (Some PerformKeyAgreement) (HasBase mapped) (data_alone (authentication_data 0x82 public)) → IsAnsweredByKind MapNonce kept old c (map_asks sent peer end) reaction said
 unfolding entered
 mapped_to kept old c sent peer NoPair mapped public reaction said at is body e h = absurd cc
 mapped_to kept old c sent peer (NoMapping secret own) mapped public reaction said at is body e h = absurd cc
@@ -150,7 +150,7 @@ mapped_to kept old c sent peer (Based secret own base) mapped public reaction sa
     }
 
 -- a pair was drawn over the base, and a secret agreed
-pub agreed_on : (kept : FullRecord) (old : State) (c : PlainCommand) (mapped : PlainMapped) (peer : List ℕ) (end : AgreeEnd peer) (agreed : PlainAgreed) (public : List ℕ) (reaction : Reaction) (said : PlainReply) → old.phase ≡ HasBase mapped → peer ≡ data_in c.body → holds_point 0x83 c.body ≡ true → Ok (agreed, public) ≡ agree_given mapped peer end → WentOn reaction said old (Some MutualAuthentication) (HasSecret agreed) (data_alone (authentication_data 0x84 public)) → Told PerformKeyAgreement kept old c (agree_asks mapped peer end) reaction said
+pub agreed_on : (kept : FullRecord) (old : State) (c : PlainCommand) (mapped : PlainMapped) (peer : List ℕ) (end : AgreeEnd peer) (agreed : PlainAgreed) (public : List ℕ) (reaction : Reaction) (said : PlainReply) → old.phase ≡ HasBase mapped → peer ≡ data_in c.body → holds_point 0x83 c.body ≡ true → Ok (agreed, public) ≡ agree_given mapped peer end → WentOn reaction said old (Some MutualAuthentication) (HasSecret agreed) (data_alone (authentication_data 0x84 public)) → IsAnsweredByKind PerformKeyAgreement kept old c (agree_asks mapped peer end) reaction said
 unfolding entered
 agreed_on kept old c mapped peer agree.NoPair agreed public reaction said at is body e h = absurd cc
 agreed_on kept old c mapped peer (agree.SamePoint secret own same) agreed public reaction said at is body e h = absurd cc
@@ -177,7 +177,7 @@ last_data kept own = object 0x7C (object 0x86 own ++ object 0x87 kept.fields.cur
 -- the terminal's token was right, and a channel was opened
 pub authenticated : (kept : FullRecord) (old : State) (c : PlainCommand) (agreed : PlainAgreed) (sent : List ℕ) (done : PlainDone) (own : List ℕ) (reaction : Reaction) (said : PlainReply) → old.phase ≡ HasSecret agreed → sent ≡ data_in c.body → holds_value 0x85 8 c.body ≡ true → Ok (done, own) ≡ check_given agreed sent → reaction.rule.0 ≡ 0 → said ≡ data_alone (last_data kept own)
     → state_left reaction old.channel ≡ record { next = None; phase = Idle; selected = old.selected; current = old.current; pace = Some (memory_of done); channel = Some (channel_after 0 (keys_of done)) }
-    → Told MutualAuthentication kept old c [] reaction said
+    → IsAnsweredByKind MutualAuthentication kept old c [] reaction said
 unfolding entered
 authenticated kept old c agreed sent done own reaction said at is body e rule answer left =
     let parts = token_parts (bytes_eq sent (terminal_token agreed)) done (done_by agreed) own (chip_token agreed) token_rule e in

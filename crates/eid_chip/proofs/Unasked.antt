@@ -15,7 +15,7 @@ use Rattle.eid_chip.specs.Transitions.{state_refused}
 use Rattle.eid_chip.specs.declared.session.Session.{Session}
 use Rattle.eid_chip.specs.declared.reaction.Reaction.{Reaction}
 use Rattle.eid_chip.specs.States.{state}
-use Rattle.eid_chip.specs.Steps.{Told, Stepped, state_left, state_due}
+use Rattle.eid_chip.specs.Steps.{IsAnsweredByKind, Stepped, state_left, state_due}
 
 -- a coprocessor that was not asked
 pub not_asked : (copro : CoproSeen) → WereAsked copro copro []
@@ -28,15 +28,15 @@ not_asked copro = record {
 }
 
 -- the coprocessor stays as it is
-pub unasked : (copro : CoproSeen) (kind is : Kind) (kept : FullRecord) (session : Session) (c : PlainCommand) (r : Reaction) (reply : PlainReply) → kind ≡ is → ((channel : Option ChannelState) → Told is kept (state session channel) c [] r reply) → Stepped copro copro kind kept session c r reply
+pub unasked : (copro : CoproSeen) (kind is : Kind) (kept : FullRecord) (session : Session) (c : PlainCommand) (r : Reaction) (reply : PlainReply) → kind ≡ is → ((channel : Option ChannelState) → IsAnsweredByKind is kept (state session channel) c [] r reply) → Stepped copro copro kind kept session c r reply
 unasked copro kind is kept session c r reply same tells = record {
   asks = [];
   were_asked = not_asked copro;
-  tells = λ channel. subst (λ (k : Kind). Told k kept (state session channel) c [] r reply) (sym same) (tells channel);
+  tells = λ channel. subst (λ (k : Kind). IsAnsweredByKind k kept (state session channel) c [] r reply) (sym same) (tells channel);
 }
 
 -- a GENERAL AUTHENTICATE that the run has not come to is refused
-pub no_step : (kept : FullRecord) (old : State) (c : PlainCommand) (r : Reaction) (reply : PlainReply) → r.rule.0 ≡ 9 → reply ≡ status_alone 0x6985 → state_left r old.channel ≡ state_due 9 (state_refused old) → Told NoStep kept old c [] r reply
+pub no_step : (kept : FullRecord) (old : State) (c : PlainCommand) (r : Reaction) (reply : PlainReply) → r.rule.0 ≡ 9 → reply ≡ status_alone 0x6985 → state_left r old.channel ≡ state_due 9 (state_refused old) → IsAnsweredByKind NoStep kept old c [] r reply
 no_step kept old c r reply rule answered left = record {
   asked = refl;
   ended = rw (rule, answered) refl;

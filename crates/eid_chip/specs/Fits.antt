@@ -21,7 +21,7 @@ use Rattle.eid_chip.specs.declared.exchange.Handled.TheVariants.{Silent, Answere
 use Rattle.eid_chip.specs.declared.exchange.HandledIn.{HandledIn}
 use Rattle.eid_chip.specs.declared.exchange.HandledIn.TheVariants as in_exchange
 use Rattle.eid_chip.specs.Commits.{Wrote, WasCutBehind, SameLayout}
-use Rattle.eid_chip.specs.States.{ChipView, Living}
+use Rattle.eid_chip.specs.States.{ChipView, RunningView}
 use Rattle.eid_chip.specs.Steps.{plain_in}
 
 -- A chip, its device, and the device's cells.
@@ -34,29 +34,30 @@ abbrev pub scene : ChipView → Device → List ℕ → Scene
 scene chip device cells = record { chip = chip; device = device; cells = cells }
 
 -- where the chip is on, its store fits the cells
-abbrev pub IsSoundLife : Option Living → Device → List ℕ → Type 0
-IsSoundLife None device cells = Unit {0}
-IsSoundLife (Some living) device cells = store.Fits living.store device cells
+abbrev pub IsSoundRunning : Option RunningView → Device → List ℕ → Type 0
+IsSoundRunning None device cells = Unit {0}
+IsSoundRunning (Some running) device cells = store.Fits running.store device cells
 
 abbrev pub IsSound : Scene → Type 0
-IsSound s = IsSoundLife s.chip.life s.device s.cells
+IsSound s = IsSoundRunning s.chip.running s.device s.cells
 
 -- where the chip is on, its state is what the moments leave
-abbrev pub HasState : Option Living → FullRecord → List PlainMoment → Type 0
+abbrev pub HasState : Option RunningView → FullRecord → List PlainMoment → Type 0
 HasState None opening moments = Unit {0}
-HasState (Some living) opening moments = living.state ≡ state_of opening moments
+HasState (Some running) opening moments = running.state ≡ state_of opening moments
 
 -- The chip over its device is where these moments leave a chip whose cells stood for this record.
 pub record Fits (s : Scene) (opening : FullRecord) (moments : List PlainMoment) : Type 0 where
-  pub powered : is_some s.chip.life ≡ on moments
+  pub powered : is_some s.chip.running ≡ on moments
   pub sound : IsSound s
-  pub living : HasState s.chip.life opening moments
+  pub state : HasState s.chip.running opening moments
   pub standing : MayHold (pending opening moments) (kept opening moments) (stands s.cells)
 
 -- From one chip over its device to another by a moment: wherever the first fits a journal, the moment is
 -- legal there, and the second fits the journal with it.
 abbrev pub Follows : Scene → Scene → PlainMoment → Type 0
-Follows old new m = (opening : FullRecord) (before : List PlainMoment) → Fits old opening before → IsLegalMoment opening before m × Fits new opening (m ∷ before)
+Follows old new m = (opening : FullRecord) (before : List PlainMoment) → Fits old opening before → IsLegalMoment opening before m
+    × Fits new opening (m ∷ before)
 
 -- What came of the bytes of a command: nothing from a chip without power; an answer, after so many commits; or, after so
 -- many, a cut of the power in the next one.
@@ -74,7 +75,7 @@ came (Lost plain finished) = Loss (option_map view.plain plain) finished
 abbrev pub came_in : Exchange → HandledIn → Came
 came_in exchange in_exchange.Silent = Silence
 came_in exchange (in_exchange.Answered plain finished rule) =
-    Answer (plain_in exchange plain) finished rule.0 (plain_reply exchange.answer) exchange.sent.items
+    Answer (plain_in exchange plain) finished rule.0 (plain_reply exchange.reply) exchange.sent.items
 came_in exchange (in_exchange.Lost plain finished) = Loss (plain_in exchange plain) finished
 
 -- the moment of bytes of which this came, with these questions
@@ -103,7 +104,7 @@ CameOver (Answer plain finished rule reply sent) old new = Wrote finished old ne
 CameOver (Loss plain finished) old new = WasCutBehind finished old new
 
 abbrev pub is_off : ChipView → Bool
-is_off chip = is_none chip.life
+is_off chip = is_none chip.running
 
 -- the number that a power-on found, where mounting was not cut
 abbrev pub found : Result ℕ MountError → Option ℕ
@@ -118,7 +119,7 @@ pub record Handles (before after : CoproSeen) (old new : Scene) (bytes : List �
   pub unasked : is_silence came ≡ true → asks ≡ []
   pub follows : Follows old new (moment_of bytes asks came)
   pub silent : is_silence came ≡ is_off old.chip
-  pub life : is_off new.chip ≡ leaves_off came
+  pub running : is_off new.chip ≡ leaves_off came
   pub device : CameOver came old.device new.device
   pub layout : SameLayout old.cells new.cells
   pub sound : IsSound new

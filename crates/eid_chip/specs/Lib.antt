@@ -5,3 +5,4 @@ pub mod States
 pub mod Steps
 pub mod Transitions
 pub mod Commits
+pub mod Naming

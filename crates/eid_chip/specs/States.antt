@@ -49,13 +49,13 @@ abbrev pub without_run : State → State
 without_run s = record { next = None; phase = Idle; selected = s.selected; current = s.current; pace = s.pace; channel = s.channel }
 
 -- A chip with power: its store, and its state.
-pub record Living : Type 0 where
+pub record RunningView : Type 0 where
   pub store : Store
   pub state : State
 
 -- What contracts see of a chip.
 pub record ChipView : Type 0 where
-  pub life : Option Living
+  pub running : Option RunningView
 
-abbrev pub living : Running → Living
-living running = record { store = running.store; state = state running.session running.channel }
+abbrev pub running_view : Running → RunningView
+running_view running = record { store = running.store; state = state running.session running.channel }

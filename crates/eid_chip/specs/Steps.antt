@@ -17,9 +17,9 @@ use Rattle.eid_model.specs.declared.kind.Kind.{Kind}
 use Rattle.eid_model.specs.Moments.{ends_session_by}
 use Rattle.eid_model.specs.Runs.{answers_of}
 use Rattle.eid_model.specs.Sessions.{State, fresh}
-use Rattle.eid_model.specs.Rules.{Heard, Command, plain_of, Situation, RuleRow, kind_rules, first_failed}
-use Rattle.eid_model.specs.Answers.{Outcome, outcome, question, due, outcome_of, question_by, due_by, situation, kind_heard, command_of}
-use Rattle.eid_model.specs.Legal.{IsHeard, AreAsked}
+use Rattle.eid_model.specs.Rules.{Incoming, OfCommand, plain_of, Situation, RuleRow, kind_rules, first_failed}
+use Rattle.eid_model.specs.Answers.{Outcome, outcome, question, due, outcome_of, question_by, due_by, situation, kind_incoming, command_of}
+use Rattle.eid_model.specs.Legal.{IsReadAs, AreAsked}
 use Rattle.eid_chip.specs.Transitions.{state_answered, two_messages_later}
 use Rattle.eid_chip.specs.declared.exchange.Exchange.{Exchange}
 use Rattle.eid_chip.specs.declared.session.Session.{Session}
@@ -46,7 +46,7 @@ refusal_by rows s = option_map (λ row. record { rule = row.number; status = row
 -- a situation in which the kind is known
 abbrev pub known : Kind → FullRecord → State → PlainCommand → List Answer → Situation
 known kind kept old c answers =
-    record { heard = Command c; command = c; kind = Some kind; kept = kept; state = old; answers = answers }
+    record { incoming = OfCommand c; command = c; kind = Some kind; kept = kept; state = old; answers = answers }
 
 -- what a step answered
 abbrev pub outcome_seen : Reaction → PlainReply → Outcome
@@ -67,16 +67,18 @@ state_due rule answered = if ends_session_by rule then fresh else answered
 
 -- a command of a known kind put these questions, was answered by the first failed of the kind's rules and those over
 -- the answers, and left this state
-pub record Told (kind : Kind) (kept : FullRecord) (old : State) (c : PlainCommand) (asks : List Ask) (reaction : Reaction) (reply : PlainReply) : Type 0 where
+pub record IsAnsweredByKind (kind : Kind) (kept : FullRecord) (old : State) (c : PlainCommand) (asks : List Ask) (reaction : Reaction)
+    (reply : PlainReply) : Type 0 where
   pub asked : AreAsked (λ answers. question_by kind_rules (known kind kept old c answers)) [] asks
   pub ended : outcome_of kind_rules (known kind kept old c (answers_of asks)) ≡ outcome_seen reaction reply
   pub left : state_left reaction old.channel ≡ state_due reaction.rule.0 (state_answered reaction.rule.0 (Some kind) c (answers_of asks) old)
 
 -- a command of a known kind put questions, by which the log grew, and was answered by them, in any channel
-pub record Stepped (before after : CoproSeen) (kind : Kind) (kept : FullRecord) (session : Session) (c : PlainCommand) (reaction : Reaction) (reply : PlainReply) : Type 0 where
+pub record Stepped (before after : CoproSeen) (kind : Kind) (kept : FullRecord) (session : Session) (c : PlainCommand) (reaction : Reaction)
+    (reply : PlainReply) : Type 0 where
   pub asks : List Ask
   pub were_asked : WereAsked before after asks
-  pub tells : (channel : Option ChannelState) → Told kind kept (state session channel) c asks reaction reply
+  pub tells : (channel : Option ChannelState) → IsAnsweredByKind kind kept (state session channel) c asks reaction reply
 
 -- ---- how a command ends that may commit
 
@@ -93,7 +95,8 @@ IsNext next (Lost finished) channel = Unit {0}
 
 -- a command of a known kind put these questions, committed what was due, was answered by the rules of its kind and those
 -- over the answers, and left this state and this world
-pub record IsEndedByKind (kind : Kind) (old : State) (c : PlainCommand) (asks : List Ask) (ending : Ending) (reply : PlainReply) (before after : World) : Type 0 where
+pub record IsEndedByKind (kind : Kind) (old : State) (c : PlainCommand) (asks : List Ask) (ending : Ending) (reply : PlainReply)
+    (before after : World) : Type 0 where
   pub asked : AreAsked (λ answers. question_by kind_rules (known kind (held before.cells) old c answers)) [] asks
   pub ended : IsEnding (due_by kind_rules (known kind (held before.cells) old c (answers_of asks)))
       (outcome_of kind_rules (known kind (held before.cells) old c (answers_of asks))) ending reply
@@ -107,39 +110,41 @@ pub record Performed (kind : Kind) (session : Session) (c : PlainCommand) (endin
   pub ended : (channel : Option ChannelState) → IsEndedByKind kind (state session channel) c asks ending reply before after
   pub layout : SameLayout before.cells after.cells
 
--- what was heard put these questions, committed what was due, was answered by the first failed rule, and left this state
+-- what was incoming put these questions, committed what was due, was answered by the first failed rule, and left this state
 -- and this world
-pub record IsEndedByRules (old : State) (heard : Heard) (asks : List Ask) (ending : Ending) (reply : PlainReply) (before after : World) : Type 0 where
-  pub asked : AreAsked (λ answers. question (situation (held before.cells) old heard answers)) [] asks
-  pub ended : IsEnding (due (situation (held before.cells) old heard (answers_of asks)))
-      (outcome (situation (held before.cells) old heard (answers_of asks))) ending reply
-  pub next : IsNext (λ rule. state_answered rule (kind_heard old heard) (command_of heard) (answers_of asks) old) ending old.channel
-  pub leaves : Leaves (due (situation (held before.cells) old heard (answers_of asks))) (held before.cells) ending before after
+pub record IsEndedByRules (old : State) (incoming : Incoming) (asks : List Ask) (ending : Ending) (reply : PlainReply) (before after : World) : Type 0 where
+  pub asked : AreAsked (λ answers. question (situation (held before.cells) old incoming answers)) [] asks
+  pub ended : IsEnding (due (situation (held before.cells) old incoming (answers_of asks)))
+      (outcome (situation (held before.cells) old incoming (answers_of asks))) ending reply
+  pub next : IsNext (λ rule. state_answered rule (kind_incoming old incoming) (command_of incoming) (answers_of asks) old) ending old.channel
+  pub leaves : Leaves (due (situation (held before.cells) old incoming (answers_of asks))) (held before.cells) ending before after
 
 pub record Reacts (session : Session) (c : PlainCommand) (ending : Ending) (reply : PlainReply) (before after : World) : Type 0 where
   pub asks : List Ask
   pub were_asked : WereAsked before.copro after.copro asks
-  pub ended : (channel : Option ChannelState) → IsEndedByRules (state session channel) (Command c) asks ending reply before after
+  pub ended : (channel : Option ChannelState) → IsEndedByRules (state session channel) (OfCommand c) asks ending reply before after
   pub layout : SameLayout before.cells after.cells
 
 -- a refusal before the kind is known, or without one: it puts no question and commits nothing
-pub record Answers (kept : FullRecord) (old : State) (heard : Heard) (asks : List Ask) (reaction : Reaction) (reply : PlainReply) : Type 0 where
-  pub asked : AreAsked (λ answers. question (situation kept old heard answers)) [] asks
-  pub ended : outcome (situation kept old heard (answers_of asks)) ≡ outcome_seen reaction reply
-  pub left : state_left reaction old.channel ≡ state_due reaction.rule.0 (state_answered reaction.rule.0 (kind_heard old heard) (command_of heard) (answers_of asks) old)
+pub record IsAnsweredByRules (kept : FullRecord) (old : State) (incoming : Incoming) (asks : List Ask) (reaction : Reaction) (reply : PlainReply) : Type 0 where
+  pub asked : AreAsked (λ answers. question (situation kept old incoming answers)) [] asks
+  pub ended : outcome (situation kept old incoming (answers_of asks)) ≡ outcome_seen reaction reply
+  pub left : state_left reaction old.channel ≡ state_due reaction.rule.0 (state_answered reaction.rule.0 (kind_incoming old incoming) (command_of incoming)
+      (answers_of asks) old)
 
 -- the plain command whose body stands in an exchange, where there is one
 abbrev pub plain_in : Exchange → Option Header → Option PlainCommand
 plain_in exchange plain = option_map (λ header. with_body header exchange.body.items) plain
 
--- bytes were heard, in a channel or without one, and the command ended so
-pub record Responds (session : Session) (channel : Option ChannelState) (bytes : List ℕ) (plain : Option PlainCommand) (ending : Ending) (reply : PlainReply) (before after : World) : Type 0 where
-  pub heard : Heard
-  pub hears : IsHeard channel bytes heard
-  pub is_plain : plain ≡ plain_of heard
+-- bytes were incoming, in a channel or without one, and the command ended so
+pub record Responds (session : Session) (channel : Option ChannelState) (bytes : List ℕ) (plain : Option PlainCommand) (ending : Ending)
+    (reply : PlainReply) (before after : World) : Type 0 where
+  pub incoming : Incoming
+  pub reads : IsReadAs channel bytes incoming
+  pub is_plain : plain ≡ plain_of incoming
   pub asks : List Ask
   pub were_asked : WereAsked before.copro after.copro asks
-  pub ended : IsEndedByRules (state session channel) heard asks ending reply before after
+  pub ended : IsEndedByRules (state session channel) incoming asks ending reply before after
   pub layout : SameLayout before.cells after.cells
 
 -- the rule that a command was answered by; 0 where it was not answered
@@ -147,9 +152,9 @@ abbrev pub rule_of : Ending → ℕ
 rule_of (Answered reaction finished) = reaction.rule.0
 rule_of (Lost finished) = 0
 
--- the channel while the answer is made: where a protected command was heard, one message later
-abbrev pub heard_in : ℕ → Option ChannelState → Option ChannelState
-heard_in rule channel = if rule == 2 || rule == 3 then channel else option_map advanced channel
+-- the channel while the answer is made: where a protected command was incoming, one message later
+abbrev pub message_in : ℕ → Option ChannelState → Option ChannelState
+message_in rule channel = if rule == 2 || rule == 3 then channel else option_map advanced channel
 
 -- a reply as it is sent in this channel, where it is the next message
 abbrev pub sent_next : Option ChannelState → ℕ → PlainReply → List ℕ
@@ -157,6 +162,6 @@ sent_next None rule reply = spelled reply
 sent_next (Some channel) rule reply =
     if rule == 2 || rule == 3 then spelled reply else sealed channel.keys (next_counter channel.counter) reply
 
--- a situation in which a command was heard
-abbrev pub heard_command : FullRecord → State → PlainCommand → List Answer → Situation
-heard_command kept old c answers = situation kept old (Command c) answers
+-- a situation in which a command was incoming
+abbrev pub with_command : FullRecord → State → PlainCommand → List Answer → Situation
+with_command kept old c answers = situation kept old (OfCommand c) answers

@@ -17,7 +17,7 @@ ghost use Rattle.eid_model.specs.Legal.{silent};
 ghost use Rattle.eid_chip.specs.Held.{held};
 ghost use Rattle.eid_chip.specs.States.{next_of};
 ghost use Rattle.eid_chip.specs.Commits.{IsMounted, world};
-ghost use Rattle.eid_chip.specs.Steps.{Performed, Reacts, Responds, Stepped, heard_in, plain_in, rule_of, sent_next};
+ghost use Rattle.eid_chip.specs.Steps.{Performed, Reacts, Responds, Stepped, message_in, plain_in, rule_of, sent_next};
 
 use crate::ending::{ends_session, refused, uncommitted};
 use crate::exchange::{Exchange, Handled, HandledIn};
@@ -73,7 +73,8 @@ fn carry_out<E: Eeprom, C: Coprocessor>(
     requires fits { stored.Fits store.now (E.device cells.now) (E.cells cells.now) }
     requires room { 2 ≤ (C.seen copro.old).spare }
     requires turn { goes_on_in_run kind ≡ true → next_of session.run ≡ Some kind }
-    ensures answers { Stepped (C.seen copro.old) (C.seen copro.new) kind (held (E.cells cells.now)) session (plain_command c.now) result (plain_reply reply.new) }
+    ensures answers { Stepped (C.seen copro.old) (C.seen copro.new) kind (held (E.cells cells.now)) session (plain_command c.now) result
+        (plain_reply reply.new) }
     ensures small { array_vec_len reply.new.content ≤ 2048 }
 {
     match kind {
@@ -137,7 +138,7 @@ fn react<E: Eeprom, C: Coprocessor>(
     perform(kind, session, store, cells, copro, c, reply)
 }
 
-/// The response to bytes of which no command was heard.
+/// The response to bytes in which no command was read.
 fn without_command(reaction: Reaction) -> Response
     ensures { (result.plain ≡ None) × (result.ending ≡ Ending.Answered reaction 0) }
 {
@@ -147,7 +148,7 @@ fn without_command(reaction: Reaction) -> Response
     }
 }
 
-/// Hears the bytes of a command without a channel, and answers them.
+/// Reads the bytes of a command without a channel, and answers them.
 fn respond<E: Eeprom, C: Coprocessor>(
     session: Session,
     store: &mut Store,
@@ -158,24 +159,24 @@ fn respond<E: Eeprom, C: Coprocessor>(
 ) -> Response
     requires mounted { IsMounted (world (C.seen copro.old) store.old (E.device cells.old) (E.cells cells.old)) }
     requires room { 2 ≤ (C.seen copro.old).spare }
-    ensures responds { Responds session None bytes.now (plain_in exchange.new result.plain) result.ending (plain_reply exchange.new.answer)
+    ensures responds { Responds session None bytes.now (plain_in exchange.new result.plain) result.ending (plain_reply exchange.new.reply)
         (world (C.seen copro.old) store.old (E.device cells.old) (E.cells cells.old))
         (world (C.seen copro.new) store.new (E.device cells.new) (E.cells cells.new)) }
-    ensures small { array_vec_len exchange.new.answer.content ≤ 2048 }
+    ensures small { array_vec_len exchange.new.reply.content ≤ 2048 }
 {
     let Ok(c) = read_command(bytes) else {
-        return without_command(refused(NO_COMMAND, session, &mut exchange.answer));
+        return without_command(refused(NO_COMMAND, session, &mut exchange.reply));
     };
     if c.body.len() > MAX_BODY {
-        return without_command(refused(NO_COMMAND, session, &mut exchange.answer));
+        return without_command(refused(NO_COMMAND, session, &mut exchange.reply));
     }
     Response {
         plain: Some(apart(&c, &mut exchange.body)),
-        ending: react(session, store, cells, copro, &c, &mut exchange.answer),
+        ending: react(session, store, cells, copro, &c, &mut exchange.reply),
     }
 }
 
-/// Hears the bytes of a command in a channel, and answers them.
+/// Reads the bytes of a command in a channel, and answers them.
 fn respond_in<E: Eeprom, C: Coprocessor>(
     channel: &mut Channel,
     session: Session,
@@ -187,29 +188,29 @@ fn respond_in<E: Eeprom, C: Coprocessor>(
 ) -> Response
     requires mounted { IsMounted (world (C.seen copro.old) store.old (E.device cells.old) (E.cells cells.old)) }
     requires room { 2 ≤ (C.seen copro.old).spare }
-    ensures responds { Responds session (Some channel.old) bytes.now (plain_in exchange.new result.plain) result.ending (plain_reply exchange.new.answer)
+    ensures responds { Responds session (Some channel.old) bytes.now (plain_in exchange.new result.plain) result.ending (plain_reply exchange.new.reply)
         (world (C.seen copro.old) store.old (E.device cells.old) (E.cells cells.old))
         (world (C.seen copro.new) store.new (E.device cells.new) (E.cells cells.new)) }
-    ensures channel { Some channel.new ≡ heard_in (rule_of result.ending) (Some channel.old) }
-    ensures small { array_vec_len exchange.new.answer.content ≤ 2048 }
+    ensures channel { Some channel.new ≡ message_in (rule_of result.ending) (Some channel.old) }
+    ensures small { array_vec_len exchange.new.reply.content ≤ 2048 }
 {
     let header = match channel.unwrap(bytes, &mut exchange.body) {
         Ok(header) => header,
         Err(SmError::Missing) => {
-            return without_command(refused(NO_OBJECTS, session, &mut exchange.answer));
+            return without_command(refused(NO_OBJECTS, session, &mut exchange.reply));
         }
         Err(SmError::Wrong) => {
-            return without_command(refused(WRONG_OBJECTS, session, &mut exchange.answer));
+            return without_command(refused(WRONG_OBJECTS, session, &mut exchange.reply));
         }
     };
     let c = header.with_body(exchange.body.as_slice());
     Response {
         plain: Some(header),
-        ending: react(session, store, cells, copro, &c, &mut exchange.answer),
+        ending: react(session, store, cells, copro, &c, &mut exchange.reply),
     }
 }
 
-/// Hears the bytes of a command, in a channel where one is open, and answers them.
+/// Reads the bytes of a command, in a channel where one is open, and answers them.
 fn respond_any<E: Eeprom, C: Coprocessor>(
     channel: &mut Option<Channel>,
     session: Session,
@@ -221,11 +222,11 @@ fn respond_any<E: Eeprom, C: Coprocessor>(
 ) -> Response
     requires mounted { IsMounted (world (C.seen copro.old) store.old (E.device cells.old) (E.cells cells.old)) }
     requires room { 2 ≤ (C.seen copro.old).spare }
-    ensures responds { Responds session channel.old bytes.now (plain_in exchange.new result.plain) result.ending (plain_reply exchange.new.answer)
+    ensures responds { Responds session channel.old bytes.now (plain_in exchange.new result.plain) result.ending (plain_reply exchange.new.reply)
         (world (C.seen copro.old) store.old (E.device cells.old) (E.cells cells.old))
         (world (C.seen copro.new) store.new (E.device cells.new) (E.cells cells.new)) }
-    ensures channel { channel.new ≡ heard_in (rule_of result.ending) channel.old }
-    ensures small { array_vec_len exchange.new.answer.content ≤ 2048 }
+    ensures channel { channel.new ≡ message_in (rule_of result.ending) channel.old }
+    ensures small { array_vec_len exchange.new.reply.content ≤ 2048 }
 {
     match channel {
         None => respond(session, store, cells, copro, bytes, exchange),
@@ -238,7 +239,7 @@ fn respond_any<E: Eeprom, C: Coprocessor>(
 fn send(channel: &mut Option<Channel>, rule: Rule, reply: &Reply, out: &mut ArrayVec<u8, MAX_BODY>)
     requires { array_vec_len reply.now.content ≤ 2048 }
     ensures sent { out.new.items ≡ sent_next channel.old rule.0 (plain_reply reply.now) }
-    ensures channel { channel.new ≡ heard_in rule.0 channel.old }
+    ensures channel { channel.new ≡ message_in rule.0 channel.old }
 {
     match channel {
         Some(channel) if rule.0 != 2 && rule.0 != 3 => channel.seal(reply, out),
@@ -270,12 +271,12 @@ fn go_on(
     channel: Option<Channel>,
     exchange: &mut Exchange,
 ) -> Running
-    requires { array_vec_len exchange.old.answer.content ≤ 2048 }
-    ensures sent { exchange.new.sent.items ≡ sent_next channel reaction.rule.0 (plain_reply exchange.old.answer) }
-    ensures said { (exchange.new.answer ≡ exchange.old.answer) × (exchange.new.body ≡ exchange.old.body) }
+    requires { array_vec_len exchange.old.reply.content ≤ 2048 }
+    ensures sent { exchange.new.sent.items ≡ sent_next channel reaction.rule.0 (plain_reply exchange.old.reply) }
+    ensures said { (exchange.new.reply ≡ exchange.old.reply) × (exchange.new.body ≡ exchange.old.body) }
     ensures session { (result.session ≡ reaction.session) × (result.store ≡ store) }
     ensures channel { result.channel ≡ (if ends_session_by reaction.rule.0 then None
-        else option_or reaction.opened (heard_in reaction.rule.0 channel)) }
+        else option_or reaction.opened (message_in reaction.rule.0 channel)) }
 {
     let Reaction {
         rule,
@@ -283,7 +284,7 @@ fn go_on(
         opened,
     } = reaction;
     let mut channel = channel;
-    send(&mut channel, rule, &exchange.answer, &mut exchange.sent);
+    send(&mut channel, rule, &exchange.reply, &mut exchange.sent);
     Running {
         store,
         session,
@@ -294,16 +295,16 @@ fn go_on(
 /// A chip. Where it has power it has the store that it mounted and a session.
 #[derive(Drop)]
 pub struct Chip {
-    life: Option<Running>,
+    running: Option<Running>,
 }
 
 impl Model for Chip {
     ghost use Rattle.std.specs.Option.{option_map};
-    ghost use Rattle.eid_chip.specs.States.{ChipView, living};
+    ghost use Rattle.eid_chip.specs.States.{ChipView, running_view};
 
     ghost Value = { ChipView };
 
-    ghost view = { λ chip. record { life = option_map living chip.life } };
+    ghost view = { λ chip. record { running = option_map running_view chip.running } };
 }
 
 impl Chip {
@@ -311,10 +312,10 @@ impl Chip {
 
     /// A chip without power. It fits every journal without moments.
     pub fn new() -> Chip
-        ensures off { result.life ≡ None }
+        ensures off { result.running ≡ None }
         ensures fits { (device : Device) (cells : List ℕ) (opening : FullRecord) → stands cells ≡ Some opening → Fits (scene result device cells) opening [] }
     {
-        Chip { life: None }
+        Chip { running: None }
     }
 
     /// Gives the device power and mounts the record that its cells stand for. The chip begins without a
@@ -331,7 +332,7 @@ impl Chip {
             → Fits (scene self.new (E.device cells.new) (E.cells cells.new)) opening (silent (PoweredOn (found result)) ∷ [])) }
         ensures sound { IsSound (scene self.new (E.device cells.new) (E.cells cells.new)) }
         ensures on { OnOk result (is_off self.new ≡ false) }
-        ensures off { OnErr result (self.new.life ≡ None) }
+        ensures off { OnErr result (self.new.running ≡ None) }
         ensures bad_image { (result ≡ Err MountError.BadImage) ↔ (stands (E.cells cells.old) ≡ None) }
         ensures untouched { result ≡ Err MountError.BadImage → E.cells cells.new ≡ E.cells cells.old }
         ensures same { stands (E.cells cells.new) ≡ stands (E.cells cells.old) }
@@ -342,7 +343,7 @@ impl Chip {
         match Store::mount(cells) {
             Ok(store) => {
                 let number = store.kept().number;
-                self.life = Some(Running {
+                self.running = Some(Running {
                     store,
                     session: Session::new(),
                     channel: None,
@@ -350,7 +351,7 @@ impl Chip {
                 Ok(number)
             }
             Err(error) => {
-                self.life = None;
+                self.running = None;
                 Err(error)
             }
         }
@@ -360,12 +361,12 @@ impl Chip {
     pub fn power_off<E: Eeprom>(&mut self, cells: &mut E)
         ensures follows { Follows (scene self.old (E.device cells.old) (E.cells cells.old))
             (scene self.new (E.device cells.new) (E.cells cells.new)) (silent PoweredOff) }
-        ensures off { self.new.life ≡ None }
+        ensures off { self.new.running ≡ None }
         ensures same { E.cells cells.new ≡ E.cells cells.old }
         ensures device { E.device cells.new ≡ record (E.device cells.old) { has_power = false } }
     {
         cells.power(false);
-        self.life = None;
+        self.running = None;
     }
 
     /// Handles the bytes of a command: answers them by the first failed rule, or carries them out.
@@ -402,7 +403,7 @@ impl Chip {
             (scene self.new (E.device cells.new) (E.cells cells.new)) bytes.now (came_in exchange.new result) }
         ensures unsaid { result ≡ HandledIn.Silent → exchange.new ≡ exchange.old }
     {
-        let Some(running) = mem::replace(&mut self.life, None) else {
+        let Some(running) = mem::replace(&mut self.running, None) else {
             return HandledIn::Silent;
         };
         let Running {
@@ -422,7 +423,7 @@ impl Chip {
         match ending {
             Ending::Answered { reaction, finished } => {
                 let rule = reaction.rule;
-                self.life = Some(go_on(reaction, store, channel, exchange));
+                self.running = Some(go_on(reaction, store, channel, exchange));
                 HandledIn::Answered {
                     plain,
                     finished,

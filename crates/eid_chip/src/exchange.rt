@@ -1,4 +1,4 @@
-//! What the chip hears and says of one command.
+//! What the chip receives and sends of one command.
 ghost use Rattle.std.specs.Prelude.{◌≡◌, [], option_map};
 ghost use Rattle.eid_apdu.specs.Answer.{plain_reply};
 ghost use Rattle.eid_model.specs.Answers.{status_alone};
@@ -13,12 +13,12 @@ use eid_sm::Header;
 
 /// The bytes of one command and its answer. It is kept from one command to the next, so that no buffer
 /// is filled anew.
-#[derive(Debug, Drop)]
+#[derive(Drop)]
 pub struct Exchange {
     /// The body of the plain command, where there is one.
     pub body: ArrayVec<u8, MAX_BODY>,
-    /// The answer before secure messaging.
-    pub answer: Reply,
+    /// The reply before secure messaging.
+    pub reply: Reply,
     /// The bytes sent.
     pub sent: ArrayVec<u8, MAX_BODY>,
 }
@@ -27,12 +27,12 @@ impl Exchange {
     /// An exchange in which nothing was said.
     pub fn new() -> Exchange
         ensures body { result.body.items ≡ [] }
-        ensures answer { plain_reply result.answer ≡ status_alone 0x9000 }
+        ensures reply { plain_reply result.reply ≡ status_alone 0x9000 }
         ensures sent { result.sent.items ≡ [] }
     {
         Exchange {
             body: ArrayVec::new(),
-            answer: Reply {
+            reply: Reply {
                 content: ArrayVec::new(),
                 status: Status(0x9000),
             },
@@ -42,7 +42,7 @@ impl Exchange {
 }
 
 /// What came of the bytes of a command, beside the bytes of its exchange.
-#[derive(Clone, Copy, Debug)]
+#[derive(Clone, Copy)]
 pub enum HandledIn {
     /// The chip has no power.
     Silent,
@@ -65,7 +65,7 @@ pub enum HandledIn {
 }
 
 /// What came of the bytes of a command.
-#[derive(Debug, Drop)]
+#[derive(Drop)]
 pub enum Handled {
     /// The chip has no power.
     Silent,
@@ -132,7 +132,7 @@ impl HandledIn {
                 plain: own_plain(plain, exchange.body),
                 finished,
                 rule,
-                answer: exchange.answer,
+                answer: exchange.reply,
                 sent: exchange.sent,
             },
             HandledIn::Lost { plain, finished } => Handled::Lost {

@@ -1,14 +1,9 @@
 //! The kind of a command, by class, instruction and parameters, and where the run stands.
-ghost use Rattle.std.specs.Prelude.{◌≡◌, ◌==◌, List, true, false, IfOk, IfErr, OnOk};
+ghost use Rattle.std.specs.Prelude.{◌≡◌, true};
 ghost use Rattle.eid_apdu.specs.Command.{plain_command};
 ghost use Rattle.eid_model.specs.Kinds.{goes_on_in_run, kind_named};
-ghost use Rattle.eid_copro.specs.declared.ask.Answer.{Answer};
-ghost use Rattle.eid_record.specs.Plain.{FullRecord};
-ghost use Rattle.eid_model.specs.Moments.{ends_session_by};
-ghost use Rattle.eid_model.specs.Sessions.{State};
-ghost use Rattle.eid_model.specs.Rules.{naming_rules};
 ghost use Rattle.eid_chip.specs.States.{next_of};
-ghost use Rattle.eid_chip.specs.Steps.{refusal, refusal_by, heard_command};
+ghost use Rattle.eid_chip.specs.Naming.{IsKindOf};
 
 use crate::refusal::{CLASS, INSTRUCTION, PARAMETERS, Refusal};
 use crate::session::Run;
@@ -18,11 +13,7 @@ use eid_model::Kind;
 /// The kind of a SELECT, by its parameters.
 fn selection(c: &Command<'_>, run: &Run) -> Result<Kind, Refusal>
     requires { (c.now.cla ≡ 0x00) × (c.now.ins ≡ 0xA4) }
-    ensures named { IfOk result (λ kind. kind_named (next_of run.now) (plain_command c.now) ≡ Some kind) }
-    ensures passed { OnOk result ((kept : FullRecord) (old : State) (answers : List Answer) → refusal_by naming_rules (heard_command kept old (plain_command c.now) answers) ≡ None) }
-    ensures refused { IfErr result (λ r. (kept : FullRecord) (old : State) (answers : List Answer) → refusal_by naming_rules (heard_command kept old (plain_command c.now) answers) ≡ Some (refusal r)) }
-    ensures turn { IfOk result (λ kind. goes_on_in_run kind ≡ true → next_of run.now ≡ Some kind) }
-    ensures lasting { IfErr result (λ r. ((r.rule.0 == 0) ≡ false) × (ends_session_by r.rule.0 ≡ false)) }
+    ensures kind { IsKindOf run.now (plain_command c.now) result }
 {
     let _ = run;
     match u16::from(c.p1) * 256 + u16::from(c.p2) {
@@ -68,11 +59,7 @@ fn inner_step(c: &Command<'_>, run: &Run) -> Kind
 /// The kind of a command of class 10, in which GENERAL AUTHENTICATE says that more steps follow.
 fn chained_kind(c: &Command<'_>, run: &Run) -> Result<Kind, Refusal>
     requires { c.now.cla ≡ 0x10 }
-    ensures named { IfOk result (λ kind. kind_named (next_of run.now) (plain_command c.now) ≡ Some kind) }
-    ensures passed { OnOk result ((kept : FullRecord) (old : State) (answers : List Answer) → refusal_by naming_rules (heard_command kept old (plain_command c.now) answers) ≡ None) }
-    ensures refused { IfErr result (λ r. (kept : FullRecord) (old : State) (answers : List Answer) → refusal_by naming_rules (heard_command kept old (plain_command c.now) answers) ≡ Some (refusal r)) }
-    ensures turn { IfOk result (λ kind. goes_on_in_run kind ≡ true → next_of run.now ≡ Some kind) }
-    ensures lasting { IfErr result (λ r. ((r.rule.0 == 0) ≡ false) × (ends_session_by r.rule.0 ≡ false)) }
+    ensures kind { IsKindOf run.now (plain_command c.now) result }
 {
     if c.ins != 0x86 {
         return Err(INSTRUCTION);
@@ -86,11 +73,7 @@ fn chained_kind(c: &Command<'_>, run: &Run) -> Result<Kind, Refusal>
 /// The kind of a GENERAL AUTHENTICATE of class 00.
 fn unchained_step(c: &Command<'_>, run: &Run) -> Result<Kind, Refusal>
     requires { (c.now.cla ≡ 0x00) × (c.now.ins ≡ 0x86) }
-    ensures named { IfOk result (λ kind. kind_named (next_of run.now) (plain_command c.now) ≡ Some kind) }
-    ensures passed { OnOk result ((kept : FullRecord) (old : State) (answers : List Answer) → refusal_by naming_rules (heard_command kept old (plain_command c.now) answers) ≡ None) }
-    ensures refused { IfErr result (λ r. (kept : FullRecord) (old : State) (answers : List Answer) → refusal_by naming_rules (heard_command kept old (plain_command c.now) answers) ≡ Some (refusal r)) }
-    ensures turn { IfOk result (λ kind. goes_on_in_run kind ≡ true → next_of run.now ≡ Some kind) }
-    ensures lasting { IfErr result (λ r. ((r.rule.0 == 0) ≡ false) × (ends_session_by r.rule.0 ≡ false)) }
+    ensures kind { IsKindOf run.now (plain_command c.now) result }
 {
     if c.p1 != 0 || c.p2 != 0 {
         return Err(PARAMETERS);
@@ -101,11 +84,7 @@ fn unchained_step(c: &Command<'_>, run: &Run) -> Result<Kind, Refusal>
 /// The kind of a command of class 00.
 fn plain_kind(c: &Command<'_>, run: &Run) -> Result<Kind, Refusal>
     requires { c.now.cla ≡ 0x00 }
-    ensures named { IfOk result (λ kind. kind_named (next_of run.now) (plain_command c.now) ≡ Some kind) }
-    ensures passed { OnOk result ((kept : FullRecord) (old : State) (answers : List Answer) → refusal_by naming_rules (heard_command kept old (plain_command c.now) answers) ≡ None) }
-    ensures refused { IfErr result (λ r. (kept : FullRecord) (old : State) (answers : List Answer) → refusal_by naming_rules (heard_command kept old (plain_command c.now) answers) ≡ Some (refusal r)) }
-    ensures turn { IfOk result (λ kind. goes_on_in_run kind ≡ true → next_of run.now ≡ Some kind) }
-    ensures lasting { IfErr result (λ r. ((r.rule.0 == 0) ≡ false) × (ends_session_by r.rule.0 ≡ false)) }
+    ensures kind { IsKindOf run.now (plain_command c.now) result }
 {
     match c.ins {
         0x22 if c.p1 == 0xc1 && c.p2 == 0xa4 => Ok(Kind::SelectPace),
@@ -121,11 +100,7 @@ fn plain_kind(c: &Command<'_>, run: &Run) -> Result<Kind, Refusal>
 /// The kind of a command where the run stands there, or the first refusal of its class, instruction or
 /// parameters.
 pub fn kind_of(c: &Command<'_>, run: &Run) -> Result<Kind, Refusal>
-    ensures named { IfOk result (λ kind. kind_named (next_of run.now) (plain_command c.now) ≡ Some kind) }
-    ensures passed { OnOk result ((kept : FullRecord) (old : State) (answers : List Answer) → refusal_by naming_rules (heard_command kept old (plain_command c.now) answers) ≡ None) }
-    ensures refused { IfErr result (λ r. (kept : FullRecord) (old : State) (answers : List Answer) → refusal_by naming_rules (heard_command kept old (plain_command c.now) answers) ≡ Some (refusal r)) }
-    ensures turn { IfOk result (λ kind. goes_on_in_run kind ≡ true → next_of run.now ≡ Some kind) }
-    ensures lasting { IfErr result (λ r. ((r.rule.0 == 0) ≡ false) × (ends_session_by r.rule.0 ≡ false)) }
+    ensures kind { IsKindOf run.now (plain_command c.now) result }
 {
     match c.cla {
         0x00 => plain_kind(c, run),

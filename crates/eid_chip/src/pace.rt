@@ -13,7 +13,7 @@ ghost use Rattle.eid_chip.specs.Held.{held};
 ghost use Rattle.eid_pace.specs.View.{done_view};
 ghost use Rattle.eid_model.specs.Sessions.{channel_after, keys_of, memory_of};
 ghost use Rattle.eid_chip.specs.States.{memory, next_of, state};
-ghost use Rattle.eid_chip.specs.Steps.{Stepped, Told};
+ghost use Rattle.eid_chip.specs.Steps.{Stepped, IsAnsweredByKind};
 
 use crate::authentication::{append, is_no_data, point_in, put_data, put_in_data, token_in};
 use crate::ending::{answered, carried_out, refused};
@@ -34,7 +34,8 @@ use eid_store::Store;
 /// MSE:Set AT for PACE: a run begins with the password and the template that were chosen. Rule 10 is a body
 /// of another form, rule 11 a reference that is not the CAN's.
 pub fn select_pace(session: Session, c: &Command<'_>, reply: &mut Reply) -> Reaction
-    ensures told { (kept : FullRecord) (channel : Option ChannelState) → Told Kind.SelectPace kept (state session channel) (plain_command c.now) [] result (plain_reply reply.new) }
+    ensures told { (kept : FullRecord) (channel : Option ChannelState)
+        → IsAnsweredByKind Kind.SelectPace kept (state session channel) (plain_command c.now) [] result (plain_reply reply.new) }
     ensures small { array_vec_len reply.new.content ≤ 2048 }
 {
     match Chosen::select(c.body) {
@@ -63,7 +64,8 @@ pub fn encrypted_nonce<E: Eeprom, C: Coprocessor>(
     requires fits { stored.Fits store.now (E.device cells.now) (E.cells cells.now) }
     requires room { 2 ≤ (C.seen copro.old).spare }
     requires turn { next_of session.run ≡ Some Kind.EncryptedNonce }
-    ensures told { Stepped (C.seen copro.old) (C.seen copro.new) Kind.EncryptedNonce (held (E.cells cells.now)) session (plain_command c.now) result (plain_reply reply.new) }
+    ensures told { Stepped (C.seen copro.old) (C.seen copro.new) Kind.EncryptedNonce (held (E.cells cells.now)) session (plain_command c.now) result
+        (plain_reply reply.new) }
     ensures small { array_vec_len reply.new.content ≤ 2048 }
 {
     let _ = cells;
@@ -98,7 +100,8 @@ pub fn map_nonce<C: Coprocessor>(
 ) -> Reaction
     requires room { 2 ≤ (C.seen copro.old).spare }
     requires turn { next_of session.run ≡ Some Kind.MapNonce }
-    ensures told { (kept : FullRecord) → Stepped (C.seen copro.old) (C.seen copro.new) Kind.MapNonce kept session (plain_command c.now) result (plain_reply reply.new) }
+    ensures told { (kept : FullRecord) → Stepped (C.seen copro.old) (C.seen copro.new) Kind.MapNonce kept session (plain_command c.now) result
+        (plain_reply reply.new) }
     ensures small { array_vec_len reply.new.content ≤ 2048 }
 {
     let Some(peer) = point_in(c.body, 0x81) else {
@@ -133,7 +136,8 @@ pub fn perform_key_agreement<C: Coprocessor>(
 ) -> Reaction
     requires room { 2 ≤ (C.seen copro.old).spare }
     requires turn { next_of session.run ≡ Some Kind.PerformKeyAgreement }
-    ensures told { (kept : FullRecord) → Stepped (C.seen copro.old) (C.seen copro.new) Kind.PerformKeyAgreement kept session (plain_command c.now) result (plain_reply reply.new) }
+    ensures told { (kept : FullRecord) → Stepped (C.seen copro.old) (C.seen copro.new) Kind.PerformKeyAgreement kept session (plain_command c.now) result
+        (plain_reply reply.new) }
     ensures small { array_vec_len reply.new.content ≤ 2048 }
 {
     let Some(peer) = point_in(c.body, 0x83) else {
@@ -174,7 +178,8 @@ fn token_content(token: &[u8; 8], kept: &Record) -> ArrayVec<u8, 64>
 
 /// Makes the reply the last one.
 fn put_token(token: &[u8; 8], kept: &Record, reply: &mut Reply)
-    ensures plain { plain_reply reply.new ≡ data_alone (object 0x7C (object 0x86 token.now ++ object 0x87 (record_view kept.now).current.name ++ previous_name (record_view kept.now).previous)) }
+    ensures plain { plain_reply reply.new ≡ data_alone (object 0x7C (object 0x86 token.now ++ object 0x87
+        (record_view kept.now).current.name ++ previous_name (record_view kept.now).previous)) }
     ensures small { array_vec_len reply.new.content ≤ 2048 }
 {
     let inner = token_content(token, kept);
@@ -214,7 +219,9 @@ pub fn mutual_authentication<E: Eeprom>(
 ) -> Reaction
     requires fits { stored.Fits store.now (E.device cells.now) (E.cells cells.now) }
     requires turn { next_of session.run ≡ Some Kind.MutualAuthentication }
-    ensures told { (channel : Option ChannelState) → Told Kind.MutualAuthentication (held (E.cells cells.now)) (state session channel) (plain_command c.now) [] result (plain_reply reply.new) }
+    ensures told { (channel : Option ChannelState)
+        → IsAnsweredByKind Kind.MutualAuthentication (held (E.cells cells.now)) (state session channel) (plain_command c.now) [] result
+        (plain_reply reply.new) }
     ensures small { array_vec_len reply.new.content ≤ 2048 }
 {
     let _ = cells;

@@ -29,7 +29,7 @@ pub enum Ending {
     },
 }
 
-/// What was heard, without its body, and how it ended.
+/// The command that was read, without its body, and how it ended.
 #[derive(Drop)]
 pub struct Response {
     pub plain: Option<Header>,

@@ -2,7 +2,7 @@
 use eid_base::{Rule, Status};
 
 /// The rule that a command failed, and the status that says so.
-#[derive(Clone, Copy, Debug, PartialEq, Eq)]
+#[derive(Clone, Copy)]
 pub struct Refusal {
     pub rule: Rule,
     pub status: Status,

@@ -10,7 +10,7 @@ ghost use Rattle.eid_model.specs.Rules.{file_meant, offset_meant};
 ghost use Rattle.eid_chip.specs.Held.{held};
 ghost use Rattle.eid_sm.specs.Keys.{ChannelState};
 ghost use Rattle.eid_chip.specs.States.{state, without_run};
-ghost use Rattle.eid_chip.specs.Steps.{Told, known};
+ghost use Rattle.eid_chip.specs.Steps.{IsAnsweredByKind, known};
 
 use crate::ending::{answered, carried_out, refused};
 use crate::files::{self, CARD_ACCESS, CARD_SECURITY, file_of_id, put_answer};
@@ -30,7 +30,8 @@ const APPLICATION_ID: [u8; 9] = [0xe8, 0x07, 0x04, 0x00, 0x7f, 0x00, 0x07, 0x03,
 
 /// SELECT of the application.
 pub fn select_application(session: Session, c: &Command<'_>, reply: &mut Reply) -> Reaction
-    ensures told { (kept : FullRecord) (channel : Option ChannelState) → Told Kind.SelectApplication kept (state session channel) (plain_command c.now) [] result (plain_reply reply.new) }
+    ensures told { (kept : FullRecord) (channel : Option ChannelState)
+        → IsAnsweredByKind Kind.SelectApplication kept (state session channel) (plain_command c.now) [] result (plain_reply reply.new) }
     ensures small { array_vec_len reply.new.content ≤ 2048 }
 {
     if c.body.is_empty() || c.body.len() > 16 {
@@ -51,7 +52,8 @@ pub fn select_application(session: Session, c: &Command<'_>, reply: &mut Reply) 
 
 /// SELECT of the master file.
 pub fn select_master_file(session: Session, c: &Command<'_>, reply: &mut Reply) -> Reaction
-    ensures told { (kept : FullRecord) (channel : Option ChannelState) → Told Kind.SelectMasterFile kept (state session channel) (plain_command c.now) [] result (plain_reply reply.new) }
+    ensures told { (kept : FullRecord) (channel : Option ChannelState)
+        → IsAnsweredByKind Kind.SelectMasterFile kept (state session channel) (plain_command c.now) [] result (plain_reply reply.new) }
     ensures small { array_vec_len reply.new.content ≤ 2048 }
 {
     if !c.body.is_empty() && c.body != [0x3f, 0x00].as_slice() {
@@ -69,7 +71,8 @@ pub fn select_master_file(session: Session, c: &Command<'_>, reply: &mut Reply) 
 
 /// SELECT of a file. It never tells whether the file is there.
 pub fn select_file(session: Session, c: &Command<'_>, reply: &mut Reply) -> Reaction
-    ensures told { (kept : FullRecord) (channel : Option ChannelState) → Told Kind.SelectFile kept (state session channel) (plain_command c.now) [] result (plain_reply reply.new) }
+    ensures told { (kept : FullRecord) (channel : Option ChannelState)
+        → IsAnsweredByKind Kind.SelectFile kept (state session channel) (plain_command c.now) [] result (plain_reply reply.new) }
     ensures small { array_vec_len reply.new.content ≤ 2048 }
 {
     let [high, low] = c.body else {
@@ -91,7 +94,8 @@ pub fn select_file(session: Session, c: &Command<'_>, reply: &mut Reply) -> Reac
 /// The file that READ BINARY means: of its short identifier, or the current one.
 #[tactic(auto, unfolding(eid_model::specs::Rules::file_meant))]
 fn meant_file(session: &Session, c: &Command<'_>) -> Option<FileNo>
-    ensures file { (kept : FullRecord) (channel : Option ChannelState) → file_meant (known Kind.ReadBinary kept (state session.now channel) (plain_command c.now) []) ≡ option_map (λ file. file.0) result }
+    ensures file { (kept : FullRecord) (channel : Option ChannelState)
+        → file_meant (known Kind.ReadBinary kept (state session.now channel) (plain_command c.now) []) ≡ option_map (λ file. file.0) result }
     ensures current { is_by_short (plain_command c.now) ≡ false → result ≡ session.now.memory.current }
     ensures named { is_by_short (plain_command c.now) ≡ true → file_of_short (c.now.p1 - 0x80) ≡ option_map (λ file. file.0) result }
 {
@@ -115,7 +119,11 @@ fn meant_offset(c: &Command<'_>) -> u16
 
 /// The session after a READ BINARY of a file: a short identifier names it.
 fn after_read(session: Session, c: &Command<'_>, file: FileNo) -> Session
-    ensures { (channel : Option ChannelState) → state result channel ≡ record (without_run (state session channel)) { current = if is_by_short (plain_command c.now) then Some file.0 else (state session channel).current } }
+    ensures { (channel : Option ChannelState)
+        → state result channel ≡ record (without_run (state session channel)) {
+          current = if is_by_short (plain_command c.now) then Some file.0 else
+              (state session channel).current;
+        } }
 {
     if c.p1 < 0x80 {
         return session.without_run();
@@ -137,7 +145,8 @@ pub fn read_binary<E: Eeprom>(
     reply: &mut Reply,
 ) -> Reaction
     requires { stored.Fits store.now (E.device cells.now) (E.cells cells.now) }
-    ensures told { (channel : Option ChannelState) → Told Kind.ReadBinary (held (E.cells cells.now)) (state session channel) (plain_command c.now) [] result (plain_reply reply.new) }
+    ensures told { (channel : Option ChannelState)
+        → IsAnsweredByKind Kind.ReadBinary (held (E.cells cells.now)) (state session channel) (plain_command c.now) [] result (plain_reply reply.new) }
     ensures small { array_vec_len reply.new.content ≤ 2048 }
 {
     if !c.body.is_empty() {

@@ -23,7 +23,7 @@ pub enum Run {
 }
 
 /// What is asked of the last PACE later.
-#[derive(Clone, Copy, Debug)]
+#[derive(Clone, Copy)]
 pub struct LastPace {
     /// The password.
     pub password: Password,
@@ -34,7 +34,7 @@ pub struct LastPace {
 }
 
 /// What a session keeps wherever its run stands.
-#[derive(Clone, Copy, Debug)]
+#[derive(Drop)]
 pub struct Memory {
     /// Whether the application is selected.
     pub selected: bool,

@@ -13,7 +13,7 @@ use Rattle.eid_model.specs.Runs.{answers_of}
 use Rattle.eid_model.specs.Sessions.{State, state_of}
 use Rattle.eid_model.specs.declared.kind.Kind.{Kind}
 use Rattle.eid_model.specs.declared.kind.Kind.TheVariants.{SelectApplication, SelectMasterFile, SelectFile, ReadBinary, SelectPace, EncryptedNonce, MapNonce, PerformKeyAgreement, MutualAuthentication, NoStep}
-use Rattle.eid_model.specs.Rules.{Heard, NoCommand, MissingObjects, WrongObjects, Command, Situation, RuleRow, plain_of, answer_rules, first_failed}
+use Rattle.eid_model.specs.Rules.{Incoming, NoCommand, MissingObjects, WrongObjects, OfCommand, Situation, RuleRow, plain_of, answer_rules, first_failed}
 use Rattle.eid_model.specs.Answers.{due, due_by, due_of, situation, rules_before}
 use Rattle.eid_model.specs.Legal.{silent}
 use Rattle.eid_model.specs.Ledger.{Books, books, books_more, books_found, books_handled, due_at, first_of, ledger, pending, kept, record_after, onto, all_committed, MayHold, MayFind}
@@ -50,12 +50,12 @@ pub due_entered : (s : Situation) → AreEntered (due s)
 due_entered s = subst AreEntered (sym (nothing_due s)) tt
 
 -- what is no command has no effects due
-pub due_heard : (full opening : FullRecord) (before : List PlainMoment) (heard : Heard) (m : PlainMoment) → m.plain ≡ plain_of heard
-    → due_at full opening before m.plain m ≡ due (situation full (state_of opening before) heard (answers_of m.asks))
-due_heard full opening before NoCommand m is = rw is (sym (nothing_due _))
-due_heard full opening before MissingObjects m is = rw is (sym (nothing_due _))
-due_heard full opening before WrongObjects m is = rw is (sym (nothing_due _))
-due_heard full opening before (Command c) m is = rw is refl
+pub due_incoming : (full opening : FullRecord) (before : List PlainMoment) (incoming : Incoming) (m : PlainMoment) → m.plain ≡ plain_of incoming
+    → due_at full opening before m.plain m ≡ due (situation full (state_of opening before) incoming (answers_of m.asks))
+due_incoming full opening before NoCommand m is = rw is (sym (nothing_due _))
+due_incoming full opening before MissingObjects m is = rw is (sym (nothing_due _))
+due_incoming full opening before WrongObjects m is = rw is (sym (nothing_due _))
+due_incoming full opening before (OfCommand c) m is = rw is refl
 
 at_entered : (full opening : FullRecord) (before : List PlainMoment) (c : Option PlainCommand) (m : PlainMoment) → AreEntered (due_at full opening before c m)
 at_entered full opening before None m = tt

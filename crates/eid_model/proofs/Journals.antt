@@ -17,9 +17,9 @@ use Rattle.eid_sm.proofs.OneProtected.{one_protected}
 use Rattle.eid_model.specs.Moments.{Event, PoweredOn, PoweredOff, Received, PlainMoment, PlainLine, line_of, on, live, AreSteady, is_lost, lost, script, asked}
 use Rattle.eid_model.specs.Runs.{answers_of}
 use Rattle.eid_model.specs.Sessions.{channel}
-use Rattle.eid_model.specs.Rules.{Heard, NoCommand, MissingObjects, WrongObjects, Command}
+use Rattle.eid_model.specs.Rules.{Incoming, NoCommand, MissingObjects, WrongObjects, OfCommand}
 use Rattle.eid_model.specs.Answers.{Outcome, outcome, question, due}
-use Rattle.eid_model.specs.Legal.{IsHeardPlain, IsHeardProtected, IsHeard, AreAsked, IsMoment, IsPowered, IsHandled, IsLegalFor, IsLegalMoment, AreLegal, answered, silent, situation_after, IsOnlyJournal}
+use Rattle.eid_model.specs.Legal.{IsReadPlain, IsReadProtected, IsReadAs, AreAsked, IsMoment, IsPowered, IsHandled, IsLegalFor, IsLegalMoment, AreLegal, answered, silent, situation_after, IsOnlyJournal}
 use Rattle.eid_model.specs.Ledger.{books, books_more, pending, kept}
 use Rattle.eid_model.proofs.KeyBytes.{channel_bytes}
 
@@ -39,40 +39,40 @@ one_more (a ∷ xs) (b ∷ ys) x y e =
     ((cc), same.1)
 
 -- bytes say one thing
-same_plain : (bytes : List ℕ) (one other : Heard) → IsHeardPlain bytes one → IsHeardPlain bytes other → one ≡ other
+same_plain : (bytes : List ℕ) (one other : Incoming) → IsReadPlain bytes one → IsReadPlain bytes other → one ≡ other
 same_plain bytes NoCommand NoCommand p q = refl
 same_plain bytes NoCommand MissingObjects p q = absurd q
 same_plain bytes NoCommand WrongObjects p q = absurd q
-same_plain bytes NoCommand (Command d) p q = absurd (p d q.0 q.1)
+same_plain bytes NoCommand (OfCommand d) p q = absurd (p d q.0 q.1)
 same_plain bytes MissingObjects other p q = absurd p
 same_plain bytes WrongObjects other p q = absurd p
-same_plain bytes (Command c) NoCommand p q = absurd (q c p.0 p.1)
-same_plain bytes (Command c) MissingObjects p q = absurd q
-same_plain bytes (Command c) WrongObjects p q = absurd q
-same_plain bytes (Command c) (Command d) p q = ap Command (spells_one bytes c d p.0 q.0)
+same_plain bytes (OfCommand c) NoCommand p q = absurd (q c p.0 p.1)
+same_plain bytes (OfCommand c) MissingObjects p q = absurd q
+same_plain bytes (OfCommand c) WrongObjects p q = absurd q
+same_plain bytes (OfCommand c) (OfCommand d) p q = ap OfCommand (spells_one bytes c d p.0 q.0)
 
 -- a protected command has the objects
 not_missing : (keys : Keys) (n : ℕ) (bytes : List ℕ) (c : PlainCommand) → IsProtected keys n bytes c → LacksObjects bytes → ⊥
 not_missing keys n bytes c is lacks = not_lacking bytes (sent_command keys n is.form c is.sent_ne) (protected_has_objects keys n bytes c is) lacks
 
-same_protected : (ch : ChannelState) (bytes : List ℕ) (one other : Heard) → AreBytes ch.keys.enc → IsHeardProtected ch bytes one → IsHeardProtected ch bytes other → one ≡ other
+same_protected : (ch : ChannelState) (bytes : List ℕ) (one other : Incoming) → AreBytes ch.keys.enc → IsReadProtected ch bytes one → IsReadProtected ch bytes other → one ≡ other
 same_protected ch bytes NoCommand other k p q = absurd p
 same_protected ch bytes MissingObjects NoCommand k p q = absurd q
 same_protected ch bytes MissingObjects MissingObjects k p q = refl
 same_protected ch bytes MissingObjects WrongObjects k p q = absurd (q.0 p)
-same_protected ch bytes MissingObjects (Command d) k p q = absurd (not_missing ch.keys (next_counter ch.counter) bytes d q p)
+same_protected ch bytes MissingObjects (OfCommand d) k p q = absurd (not_missing ch.keys (next_counter ch.counter) bytes d q p)
 same_protected ch bytes WrongObjects NoCommand k p q = absurd q
 same_protected ch bytes WrongObjects MissingObjects k p q = absurd (p.0 q)
 same_protected ch bytes WrongObjects WrongObjects k p q = refl
-same_protected ch bytes WrongObjects (Command d) k p q = absurd (p.1 d q)
-same_protected ch bytes (Command c) NoCommand k p q = absurd q
-same_protected ch bytes (Command c) MissingObjects k p q = absurd (not_missing ch.keys (next_counter ch.counter) bytes c p q)
-same_protected ch bytes (Command c) WrongObjects k p q = absurd (q.1 c p)
-same_protected ch bytes (Command c) (Command d) k p q = ap Command (one_protected ch.keys (next_counter ch.counter) bytes c d k p q)
+same_protected ch bytes WrongObjects (OfCommand d) k p q = absurd (p.1 d q)
+same_protected ch bytes (OfCommand c) NoCommand k p q = absurd q
+same_protected ch bytes (OfCommand c) MissingObjects k p q = absurd (not_missing ch.keys (next_counter ch.counter) bytes c p q)
+same_protected ch bytes (OfCommand c) WrongObjects k p q = absurd (q.1 c p)
+same_protected ch bytes (OfCommand c) (OfCommand d) k p q = ap OfCommand (one_protected ch.keys (next_counter ch.counter) bytes c d k p q)
 
-same_heard : (session : List PlainMoment) (o : Option ChannelState) (bytes : List ℕ) (one other : Heard) → channel session ≡ o → IsHeard o bytes one → IsHeard o bytes other → one ≡ other
-same_heard session None bytes one other is p q = same_plain bytes one other p q
-same_heard session (Some ch) bytes one other is p q = same_protected ch bytes one other (channel_bytes session ch is) p q
+same_incoming : (session : List PlainMoment) (o : Option ChannelState) (bytes : List ℕ) (one other : Incoming) → channel session ≡ o → IsReadAs o bytes one → IsReadAs o bytes other → one ≡ other
+same_incoming session None bytes one other is p q = same_plain bytes one other p q
+same_incoming session (Some ch) bytes one other is p q = same_protected ch bytes one other (channel_bytes session ch is) p q
 
 -- the questions that are put are the same, where they are answered from one source
 same_first : (x y : Ask) → x.question ≡ y.question → x.answer ≡ y.answer → x ≡ y
@@ -99,21 +99,21 @@ same_asks source next log given (x ∷ a) (y ∷ b) p q s t =
     let later : a ≡ b = same_asks source next (log ++ x ∷ []) (given ++ x.answer ∷ []) a b p.2 asked_b later_a later_b in
     ap (λ (f : Ask). f ∷ a) first ∙ ap (λ (l : List Ask). y ∷ l) later
 
--- what was heard and what was asked
+-- what was incoming and what was asked
 same_powered : (source : Source) (opening : FullRecord) (before : List PlainMoment) (bytes : List ℕ) (m n : PlainMoment) (reply other : PlainReply) → AnswersFrom source (asked (m ∷ before)) → AnswersFrom source (asked (n ∷ before))
     → m.answer ≡ Some reply → n.answer ≡ Some other → IsPowered opening before bytes m → IsPowered opening before bytes n → m ≡ n
 same_powered source opening before bytes m n reply other s t m_answered n_answered p q =
     let ch = channel (live before) in
-    let heard : p.heard ≡ q.heard = same_heard (live before) ch bytes p.heard q.heard refl p.hears q.hears in
-    let next : Heard → List Answer → Option Question = λ (h : Heard) (given : List Answer). question (situation_after opening before h given) in
-    let q_asked : AreAsked (next p.heard) [] n.asks = subst (λ (h : Heard). AreAsked (next h) [] n.asks) (sym heard) q.asked in
-    let asks : m.asks ≡ n.asks = same_asks source (next p.heard) (asked before) [] m.asks n.asks p.asked q_asked s t in
-    let made : Heard → List Ask → PlainMoment = λ (h : Heard) (a : List Ask). answered ch bytes h a (length (due (situation_after opening before h (answers_of a)))) (outcome (situation_after opening before h (answers_of a))) in
-    let due_for : Heard → List Ask → List PlainEffect = λ (h : Heard) (a : List Ask). due (situation_after opening before h (answers_of a)) in
-    let ends : Heard → List Ask → Outcome = λ (h : Heard) (a : List Ask). outcome (situation_after opening before h (answers_of a)) in
-    let m_is : m ≡ made p.heard m.asks = subst (λ (o : Option PlainReply). IsMoment o ch bytes p.heard (due_for p.heard m.asks) (ends p.heard m.asks) m) m_answered p.moment in
-    let n_is : n ≡ made q.heard n.asks = subst (λ (o : Option PlainReply). IsMoment o ch bytes q.heard (due_for q.heard n.asks) (ends q.heard n.asks) n) n_answered q.moment in
-    m_is ∙ ap (λ (h : Heard). made h m.asks) heard ∙ ap (λ (a : List Ask). made q.heard a) asks ∙ sym n_is
+    let incoming : p.incoming ≡ q.incoming = same_incoming (live before) ch bytes p.incoming q.incoming refl p.reads q.reads in
+    let next : Incoming → List Answer → Option Question = λ (h : Incoming) (given : List Answer). question (situation_after opening before h given) in
+    let q_asked : AreAsked (next p.incoming) [] n.asks = subst (λ (h : Incoming). AreAsked (next h) [] n.asks) (sym incoming) q.asked in
+    let asks : m.asks ≡ n.asks = same_asks source (next p.incoming) (asked before) [] m.asks n.asks p.asked q_asked s t in
+    let made : Incoming → List Ask → PlainMoment = λ (h : Incoming) (a : List Ask). answered ch bytes h a (length (due (situation_after opening before h (answers_of a)))) (outcome (situation_after opening before h (answers_of a))) in
+    let due_for : Incoming → List Ask → List PlainEffect = λ (h : Incoming) (a : List Ask). due (situation_after opening before h (answers_of a)) in
+    let ends : Incoming → List Ask → Outcome = λ (h : Incoming) (a : List Ask). outcome (situation_after opening before h (answers_of a)) in
+    let m_is : m ≡ made p.incoming m.asks = subst (λ (o : Option PlainReply). IsMoment o ch bytes p.incoming (due_for p.incoming m.asks) (ends p.incoming m.asks) m) m_answered p.moment in
+    let n_is : n ≡ made q.incoming n.asks = subst (λ (o : Option PlainReply). IsMoment o ch bytes q.incoming (due_for q.incoming n.asks) (ends q.incoming n.asks) n) n_answered q.moment in
+    m_is ∙ ap (λ (h : Incoming). made h m.asks) incoming ∙ ap (λ (a : List Ask). made q.incoming a) asks ∙ sym n_is
 
 same_handled : (source : Source) (power : Bool) (opening : FullRecord) (before : List PlainMoment) (bytes : List ℕ) (m n : PlainMoment) → AnswersFrom source (asked (m ∷ before)) → AnswersFrom source (asked (n ∷ before)) → on before ≡ power
     → (is_none m.answer && on before) ≡ false → (is_none n.answer && on before) ≡ false → IsHandled opening before bytes m → IsHandled opening before bytes n → m ≡ n

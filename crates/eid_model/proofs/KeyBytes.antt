@@ -13,7 +13,7 @@ use Rattle.eid_model.specs.declared.kind.Kind.{Kind}
 use Rattle.eid_model.specs.declared.kind.Kind.TheVariants.{SelectApplication, SelectMasterFile, SelectFile, ReadBinary, SelectPace, EncryptedNonce, MapNonce, PerformKeyAgreement, MutualAuthentication, NoStep}
 use Rattle.eid_model.specs.Moments.{PlainMoment}
 use Rattle.eid_model.specs.Runs.{Phase, Idle, Chose, SentNonce, HasBase, HasSecret, run, phase}
-use Rattle.eid_model.specs.Sessions.{pace_done, pace_by, carried_out, completed, keys_of, channel_keys, channel, channel_after, commands_since_opening}
+use Rattle.eid_model.specs.Sessions.{pace_done, pace_by, kind_of_moment, pace_completed, keys_of, channel_keys, channel, channel_after, commands_since_opening}
 
 -- each of them is a byte
 All : List ℕ → Type 0
@@ -50,7 +50,7 @@ pub derived_bytes : (secret nonce : List ℕ) (which : ℕ) (i : ℕ) → slice_
 unfolding sha1
 derived_bytes secret nonce which i = are_bytes _ (all_front 16 _ (digest_are _ 5)) i
 
--- the key of a PACE that was completed
+-- the key of a PACE that was pace_completed
 done_bytes : (kind : Kind) (p : Phase) (done : PlainDone) → pace_done kind p ≡ Some done → AreBytes done.enc
 done_bytes MutualAuthentication (HasSecret agreed) done is =
     let same : done_by agreed ≡ done = cc in
@@ -72,12 +72,12 @@ done_bytes NoStep p done is = absurd (cc)
 -- and the keys of the channel that was opened last
 keys_bytes : (session : List PlainMoment) (keys : Keys) → channel_keys session ≡ Some keys → AreBytes keys.enc
 keys_bytes [] keys is = absurd (cc)
-keys_bytes (m ∷ before) keys is = by (completed m before) refl (keys_bytes before keys) is where
-  by : (o : Option PlainDone) → completed m before ≡ o → (channel_keys before ≡ Some keys → AreBytes keys.enc) → option_or (option_map keys_of o) (channel_keys before) ≡ Some keys → AreBytes keys.enc
+keys_bytes (m ∷ before) keys is = by (pace_completed m before) refl (keys_bytes before keys) is where
+  by : (o : Option PlainDone) → pace_completed m before ≡ o → (channel_keys before ≡ Some keys → AreBytes keys.enc) → option_or (option_map keys_of o) (channel_keys before) ≡ Some keys → AreBytes keys.enc
   by None none earlier is = earlier is
   by (Some found) there earlier is =
       let same : keys_of found ≡ keys = cc in
-      subst (λ (k : Keys). AreBytes k.enc) same (by_kind (carried_out m before) there)
+      subst (λ (k : Keys). AreBytes k.enc) same (by_kind (kind_of_moment m before) there)
     where
       by_kind : (kind : Option Kind) → pace_by kind (phase (run before)) ≡ Some found → AreBytes found.enc
       by_kind None none = absurd (cc)

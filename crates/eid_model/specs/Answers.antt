@@ -17,7 +17,7 @@ use Rattle.eid_model.specs.Bodies.{data_in, authentication_data}
 use Rattle.eid_model.specs.Kinds.{kind_named}
 use Rattle.eid_model.specs.Runs.{Phase, Chose, SentNonce, HasBase, HasSecret}
 use Rattle.eid_model.specs.Sessions.{State}
-use Rattle.eid_model.specs.Rules.{Heard, Command, Situation, RuleRow, hearing_rules, naming_rules, request_rules, kind_rules, answer_rules, proof_rules, first_failed, file_of, file_meant, offset_meant}
+use Rattle.eid_model.specs.Rules.{Incoming, OfCommand, Situation, RuleRow, transport_rules, naming_rules, request_rules, kind_rules, answer_rules, proof_rules, first_failed, bytes_of_file, file_meant, offset_meant}
 
 abbrev pub status_alone : ℕ → PlainReply
 status_alone status = record { content = []; status = status }
@@ -61,7 +61,7 @@ success_of SelectApplication s = status_alone 0x9000
 success_of SelectMasterFile s = status_alone 0x9000
 success_of SelectFile s = status_alone 0x9000
 success_of ReadBinary s =
-    read_reply (drop (offset_meant s.command) (unwrap_or (file_of s.kept (file_meant s)) [])) s.command.ne
+    read_reply (drop (offset_meant s.command) (unwrap_or (bytes_of_file s.kept (file_meant s)) [])) s.command.ne
 success_of SelectPace s = status_alone 0x9000
 success_of EncryptedNonce s = nonce_reply s.kept.fields s.state.phase s.answers
 success_of MapNonce s = point_reply 0x82 s.answers
@@ -82,18 +82,18 @@ abbrev pub outcome_by : Option RuleRow → Situation → Outcome
 outcome_by None s = record { rule = 0; reply = success s.kind s }
 outcome_by (Some row) s = record { rule = row.number; reply = status_alone (row.status s) }
 
--- the command of what was heard, where there is one
-abbrev pub command_of : Heard → PlainCommand
-command_of (Command c) = c
-command_of heard = record { cla = 0; ins = 0; p1 = 0; p2 = 0; body = []; ne = 0 }
+-- the command of what was incoming, where there is one
+abbrev pub command_of : Incoming → PlainCommand
+command_of (OfCommand c) = c
+command_of incoming = record { cla = 0; ins = 0; p1 = 0; p2 = 0; body = []; ne = 0 }
 
-abbrev pub kind_heard : State → Heard → Option Kind
-kind_heard state (Command c) = kind_named state.next c
-kind_heard state heard = None
+abbrev pub kind_incoming : State → Incoming → Option Kind
+kind_incoming state (OfCommand c) = kind_named state.next c
+kind_incoming state incoming = None
 
-abbrev pub situation : FullRecord → State → Heard → List Answer → Situation
-situation kept state heard answers =
-    record { heard = heard; command = command_of heard; kind = kind_heard state heard; kept = kept; state = state; answers = answers }
+abbrev pub situation : FullRecord → State → Incoming → List Answer → Situation
+situation kept state incoming answers =
+    record { incoming = incoming; command = command_of incoming; kind = kind_incoming state incoming; kept = kept; state = state; answers = answers }
 
 -- ---- questions
 
@@ -130,7 +130,7 @@ question_of (Some NoStep) s = None
 
 -- the rules before the answers
 abbrev pub rules_before : List RuleRow
-rules_before = hearing_rules ++ naming_rules ++ request_rules ++ kind_rules
+rules_before = transport_rules ++ naming_rules ++ request_rules ++ kind_rules
 
 -- the next question, by these rules and those over the answers so far: none where one of them fails
 abbrev pub question_by : List RuleRow → Situation → Option Question

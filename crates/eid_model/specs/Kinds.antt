@@ -39,8 +39,8 @@ pub record KindRow : Type 0 where
   pub parameters : ℕ → Bool
   pub comes : Option Kind → Bool
 
-abbrev pub always : Option Kind → Bool
-always next = true
+abbrev pub in_any_run : Option Kind → Bool
+in_any_run next = true
 
 -- a step is of its kind where the run has come to it
 abbrev pub in_turn : Kind → Option Kind → Bool
@@ -49,17 +49,17 @@ in_turn kind (Some next) = same_kind kind next
 
 abbrev pub kinds : List KindRow
 kinds =
-    record { kind = SelectApplication; classes = 0x00 ∷ []; instruction = 0xA4; parameters = λ p. p == 0x040C; comes = always } ∷
-    record { kind = SelectMasterFile; classes = 0x00 ∷ []; instruction = 0xA4; parameters = λ p. p == 0x000C; comes = always } ∷
-    record { kind = SelectFile; classes = 0x00 ∷ []; instruction = 0xA4; parameters = λ p. p == 0x020C; comes = always } ∷
-    record { kind = ReadBinary; classes = 0x00 ∷ []; instruction = 0xB0; parameters = λ p. nat_lt p 0xA000; comes = always } ∷
-    record { kind = SelectPace; classes = 0x00 ∷ []; instruction = 0x22; parameters = λ p. p == 0xC1A4; comes = always } ∷
+    record { kind = SelectApplication; classes = 0x00 ∷ []; instruction = 0xA4; parameters = λ p. p == 0x040C; comes = in_any_run } ∷
+    record { kind = SelectMasterFile; classes = 0x00 ∷ []; instruction = 0xA4; parameters = λ p. p == 0x000C; comes = in_any_run } ∷
+    record { kind = SelectFile; classes = 0x00 ∷ []; instruction = 0xA4; parameters = λ p. p == 0x020C; comes = in_any_run } ∷
+    record { kind = ReadBinary; classes = 0x00 ∷ []; instruction = 0xB0; parameters = λ p. nat_lt p 0xA000; comes = in_any_run } ∷
+    record { kind = SelectPace; classes = 0x00 ∷ []; instruction = 0x22; parameters = λ p. p == 0xC1A4; comes = in_any_run } ∷
     record { kind = EncryptedNonce; classes = 0x10 ∷ []; instruction = 0x86; parameters = λ p. p == 0; comes = in_turn EncryptedNonce } ∷
     record { kind = MapNonce; classes = 0x10 ∷ []; instruction = 0x86; parameters = λ p. p == 0; comes = in_turn MapNonce } ∷
     record { kind = PerformKeyAgreement; classes = 0x10 ∷ []; instruction = 0x86; parameters = λ p. p == 0; comes = in_turn PerformKeyAgreement } ∷
     record { kind = MutualAuthentication; classes = 0x00 ∷ []; instruction = 0x86; parameters = λ p. p == 0; comes = in_turn MutualAuthentication } ∷
     -- a GENERAL AUTHENTICATE that the run has not come to
-    record { kind = NoStep; classes = 0x00 ∷ 0x10 ∷ []; instruction = 0x86; parameters = λ p. p == 0; comes = always } ∷ []
+    record { kind = NoStep; classes = 0x00 ∷ 0x10 ∷ []; instruction = 0x86; parameters = λ p. p == 0; comes = in_any_run } ∷ []
 
 -- the row has the command's class and instruction
 abbrev pub has_instruction : PlainCommand → KindRow → Bool

@@ -9,7 +9,7 @@ use Rattle.eid_record.specs.Effect.{committed}
 use Rattle.eid_model.specs.Moments.{Event, PoweredOn, PoweredOff, Received, PlainMoment, on}
 use Rattle.eid_model.specs.Runs.{answers_of}
 use Rattle.eid_model.specs.Sessions.{State, state_of}
-use Rattle.eid_model.specs.Rules.{Heard, Command}
+use Rattle.eid_model.specs.Rules.{Incoming, OfCommand}
 use Rattle.eid_model.specs.Answers.{situation, due}
 
 -- ---- the record kept, by the effects that were committed, the newest first
@@ -172,7 +172,7 @@ first_of (effect ∷ later) = Some effect
 -- the effects that were due at a command, in the record kept before it
 abbrev pub due_at : FullRecord → FullRecord → List PlainMoment → Option PlainCommand → PlainMoment → List PlainEffect
 due_at kept opening before None m = []
-due_at kept opening before (Some c) m = due (situation kept (state_of opening before) (Command c) (answers_of m.asks))
+due_at kept opening before (Some c) m = due (situation kept (state_of opening before) (OfCommand c) (answers_of m.asks))
 
 -- a power-on that found this number: one more than what was kept tells that what was pending was committed
 abbrev pub books_found : ℕ → ℕ → Books → Books

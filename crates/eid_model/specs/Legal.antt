@@ -14,7 +14,7 @@ use Rattle.eid_sm.specs.Replies.{sealed}
 use Rattle.eid_model.specs.Moments.{Event, PoweredOn, PoweredOff, Received, PlainMoment, on, live, script, asked, AreSteady}
 use Rattle.eid_model.specs.Runs.{answers_of}
 use Rattle.eid_model.specs.Sessions.{state_of, channel}
-use Rattle.eid_model.specs.Rules.{Heard, NoCommand, MissingObjects, WrongObjects, Command, plain_of, Situation}
+use Rattle.eid_model.specs.Rules.{Incoming, NoCommand, MissingObjects, WrongObjects, OfCommand, plain_of, Situation}
 use Rattle.eid_model.specs.Answers.{Outcome, outcome, situation, question, due}
 use Rattle.eid_model.specs.Ledger.{kept, pending, MayFind}
 
@@ -23,23 +23,23 @@ abbrev pub MAX_BODY : ℕ
 MAX_BODY = 2200
 
 -- without a channel the bytes say this: a command with a body that is not too long, or none such
-abbrev pub IsHeardPlain : List ℕ → Heard → Type 0
-IsHeardPlain bytes NoCommand = (c : PlainCommand) → Spells bytes c → length c.body ≤ MAX_BODY → ⊥
-IsHeardPlain bytes (Command c) = Spells bytes c × (length c.body ≤ MAX_BODY)
-IsHeardPlain bytes heard = ⊥
+abbrev pub IsReadPlain : List ℕ → Incoming → Type 0
+IsReadPlain bytes NoCommand = (c : PlainCommand) → Spells bytes c → length c.body ≤ MAX_BODY → ⊥
+IsReadPlain bytes (OfCommand c) = Spells bytes c × (length c.body ≤ MAX_BODY)
+IsReadPlain bytes incoming = ⊥
 
 -- in a channel they say this: a command that is protected at the next counter, or the objects of secure messaging
 -- are missing or wrong
-abbrev pub IsHeardProtected : ChannelState → List ℕ → Heard → Type 0
-IsHeardProtected ch bytes MissingObjects = LacksObjects bytes
-IsHeardProtected ch bytes WrongObjects =
+abbrev pub IsReadProtected : ChannelState → List ℕ → Incoming → Type 0
+IsReadProtected ch bytes MissingObjects = LacksObjects bytes
+IsReadProtected ch bytes WrongObjects =
     (LacksObjects bytes → ⊥) × ((c : PlainCommand) → IsProtected ch.keys (next_counter ch.counter) bytes c → ⊥)
-IsHeardProtected ch bytes (Command c) = IsProtected ch.keys (next_counter ch.counter) bytes c
-IsHeardProtected ch bytes NoCommand = ⊥
+IsReadProtected ch bytes (OfCommand c) = IsProtected ch.keys (next_counter ch.counter) bytes c
+IsReadProtected ch bytes NoCommand = ⊥
 
-abbrev pub IsHeard : Option ChannelState → List ℕ → Heard → Type 0
-IsHeard None bytes heard = IsHeardPlain bytes heard
-IsHeard (Some ch) bytes heard = IsHeardProtected ch bytes heard
+abbrev pub IsReadAs : Option ChannelState → List ℕ → Incoming → Type 0
+IsReadAs None bytes incoming = IsReadPlain bytes incoming
+IsReadAs (Some ch) bytes incoming = IsReadProtected ch bytes incoming
 
 -- a moment of which nothing comes: power on or off, or bytes that reach a chip without power
 abbrev pub silent : Event → PlainMoment
@@ -59,10 +59,10 @@ sent_in (Some ch) rule reply =
     if rule == 2 || rule == 3 then spelled reply else sealed ch.keys (next_counter (next_counter ch.counter)) reply
 
 -- a moment that is answered, after so many commits
-abbrev pub answered : Option ChannelState → List ℕ → Heard → List Ask → ℕ → Outcome → PlainMoment
-answered ch bytes heard asks finished outcome = record {
+abbrev pub answered : Option ChannelState → List ℕ → Incoming → List Ask → ℕ → Outcome → PlainMoment
+answered ch bytes incoming asks finished outcome = record {
   input = Received bytes;
-  plain = plain_of heard;
+  plain = plain_of incoming;
   asks = asks;
   finished = finished;
   rule = outcome.rule;
@@ -71,26 +71,26 @@ answered ch bytes heard asks finished outcome = record {
 }
 
 -- a moment that is lost in a commit, after so many others
-abbrev pub lost_in : List ℕ → Heard → List Ask → ℕ → PlainMoment
-lost_in bytes heard asks finished =
-    record { input = Received bytes; plain = plain_of heard; asks = asks; finished = finished; rule = 0; answer = None; sent = None }
+abbrev pub lost_in : List ℕ → Incoming → List Ask → ℕ → PlainMoment
+lost_in bytes incoming asks finished =
+    record { input = Received bytes; plain = plain_of incoming; asks = asks; finished = finished; rule = 0; answer = None; sent = None }
 
--- where what was heard is answered, after these moments and these answers
-abbrev pub situation_after : FullRecord → List PlainMoment → Heard → List Answer → Situation
-situation_after opening before heard answers = situation (kept opening before) (state_of opening before) heard answers
+-- where what was incoming is answered, after these moments and these answers
+abbrev pub situation_after : FullRecord → List PlainMoment → Incoming → List Answer → Situation
+situation_after opening before incoming answers = situation (kept opening before) (state_of opening before) incoming answers
 
--- A chip with power puts the questions of what it heard, and commits the effects that are due: all of them, and then it
+-- A chip with power puts the questions of what it incoming, and commits the effects that are due: all of them, and then it
 -- answers by the first failed rule; or fewer, and the power is cut in the next commit.
-abbrev pub IsMoment : Option PlainReply → Option ChannelState → List ℕ → Heard → List PlainEffect → Outcome → PlainMoment → Type 0
-IsMoment (Some reply) ch bytes heard due outcome m = m ≡ answered ch bytes heard m.asks (length due) outcome
-IsMoment None ch bytes heard due outcome m = (m ≡ lost_in bytes heard m.asks m.finished) × (m.finished < length due)
+abbrev pub IsMoment : Option PlainReply → Option ChannelState → List ℕ → Incoming → List PlainEffect → Outcome → PlainMoment → Type 0
+IsMoment (Some reply) ch bytes incoming due outcome m = m ≡ answered ch bytes incoming m.asks (length due) outcome
+IsMoment None ch bytes incoming due outcome m = (m ≡ lost_in bytes incoming m.asks m.finished) × (m.finished < length due)
 
 pub record IsPowered (opening : FullRecord) (before : List PlainMoment) (bytes : List ℕ) (m : PlainMoment) : Type 0 where
-  pub heard : Heard
-  pub hears : IsHeard (channel (live before)) bytes heard
-  pub asked : AreAsked (λ answers. question (situation_after opening before heard answers)) [] m.asks
-  pub moment : IsMoment m.answer (channel (live before)) bytes heard (due (situation_after opening before heard (answers_of m.asks)))
-      (outcome (situation_after opening before heard (answers_of m.asks))) m
+  pub incoming : Incoming
+  pub reads : IsReadAs (channel (live before)) bytes incoming
+  pub asked : AreAsked (λ answers. question (situation_after opening before incoming answers)) [] m.asks
+  pub moment : IsMoment m.answer (channel (live before)) bytes incoming (due (situation_after opening before incoming (answers_of m.asks)))
+      (outcome (situation_after opening before incoming (answers_of m.asks))) m
 
 -- with power and without
 pub record IsHandled (opening : FullRecord) (before : List PlainMoment) (bytes : List ℕ) (m : PlainMoment) : Type 0 where

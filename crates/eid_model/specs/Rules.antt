@@ -21,20 +21,20 @@ use Rattle.eid_model.specs.Sessions.{State, number_of_two}
 
 -- what the bytes received say: no command with a body of at most 2,200 bytes; in a channel, that the objects of
 -- secure messaging are missing, or wrong; or this command
-pub data Heard : Type 0 where
-  NoCommand : Heard
-  MissingObjects : Heard
-  WrongObjects : Heard
-  Command : PlainCommand → Heard
+pub data Incoming : Type 0 where
+  NoCommand : Incoming
+  MissingObjects : Incoming
+  WrongObjects : Incoming
+  OfCommand : PlainCommand → Incoming
 
-abbrev pub plain_of : Heard → Option PlainCommand
-plain_of (Command c) = Some c
-plain_of heard = None
+abbrev pub plain_of : Incoming → Option PlainCommand
+plain_of (OfCommand c) = Some c
+plain_of incoming = None
 
--- Where a command is answered: what was heard, the command, its kind, the record kept, the state of the session,
+-- Where a command is answered: what was incoming, the command, its kind, the record kept, the state of the session,
 -- and what the coprocessor has answered so far.
 pub record Situation : Type 0 where
-  pub heard : Heard
+  pub incoming : Incoming
   pub command : PlainCommand
   pub kind : Option Kind
   pub kept : FullRecord
@@ -48,8 +48,8 @@ pub record RuleRow : Type 0 where
   pub kinds : List Kind
   pub holds : Situation → Bool
 
-abbrev pub always : ℕ → Situation → ℕ
-always status s = status
+abbrev pub fixed : ℕ → Situation → ℕ
+fixed status s = status
 
 -- the class is 00, 10 or 80
 abbrev pub is_class : ℕ → Bool
@@ -92,21 +92,21 @@ is_named (Some MutualAuthentication) s = true
 is_named (Some NoStep) s = true
 
 -- the file's bytes, where it is present
-abbrev pub file_of : FullRecord → Option ℕ → Option (List ℕ)
-file_of kept None = None
-file_of kept (Some file) = slice_index_or kept.files file None
+abbrev pub bytes_of_file : FullRecord → Option ℕ → Option (List ℕ)
+bytes_of_file kept None = None
+bytes_of_file kept (Some file) = slice_index_or kept.files file None
 
-abbrev pub is_command : Heard → Bool
+abbrev pub is_command : Incoming → Bool
 is_command NoCommand = false
-is_command heard = true
+is_command incoming = true
 
-abbrev pub has_objects : Heard → Bool
+abbrev pub has_objects : Incoming → Bool
 has_objects MissingObjects = false
-has_objects heard = true
+has_objects incoming = true
 
-abbrev pub is_protected : Heard → Bool
+abbrev pub is_protected : Incoming → Bool
 is_protected WrongObjects = false
-is_protected heard = true
+is_protected incoming = true
 
 abbrev pub is_card_access : Option ℕ → Bool
 is_card_access None = false
@@ -136,25 +136,25 @@ abbrev pub is_token : List ℕ → Phase → Bool
 is_token sent (HasSecret agreed) = bytes_eq sent (terminal_token agreed)
 is_token sent phase = false
 
--- whether the command can be heard at all
-abbrev pub hearing_rules : List RuleRow
-hearing_rules =
+-- whether the command can be incoming at all
+abbrev pub transport_rules : List RuleRow
+transport_rules =
     -- the bytes are a command with a body of at most 2,200 bytes
-    record { number = 1; status = always 0x6700; kinds = []; holds = λ s. is_command s.heard } ∷
+    record { number = 1; status = fixed 0x6700; kinds = []; holds = λ s. is_command s.incoming } ∷
     -- in a channel: the message has the objects of secure messaging
-    record { number = 2; status = always 0x6987; kinds = []; holds = λ s. has_objects s.heard } ∷
+    record { number = 2; status = fixed 0x6987; kinds = []; holds = λ s. has_objects s.incoming } ∷
     -- in a channel: the message is protected at the next counter
-    record { number = 3; status = always 0x6988; kinds = []; holds = λ s. is_protected s.heard } ∷ []
+    record { number = 3; status = fixed 0x6988; kinds = []; holds = λ s. is_protected s.incoming } ∷ []
 
 -- whether it has a kind
 abbrev pub naming_rules : List RuleRow
 naming_rules =
     -- the class is 00, 10 or 80
-    record { number = 4; status = always 0x6E00; kinds = []; holds = λ s. is_class s.command.cla } ∷
+    record { number = 4; status = fixed 0x6E00; kinds = []; holds = λ s. is_class s.command.cla } ∷
     -- some kind has this class and instruction
-    record { number = 5; status = always 0x6D00; kinds = []; holds = λ s. list_any (has_instruction s.command) kinds } ∷
+    record { number = 5; status = fixed 0x6D00; kinds = []; holds = λ s. list_any (has_instruction s.command) kinds } ∷
     -- some kind has this class, instruction and parameters
-    record { number = 6; status = always 0x6A86; kinds = []; holds = λ s. list_any (has_parameters s.command) kinds } ∷ []
+    record { number = 6; status = fixed 0x6A86; kinds = []; holds = λ s. list_any (has_parameters s.command) kinds } ∷ []
 
 -- the longest body of one request
 abbrev pub MAX_REQUEST : ℕ
@@ -165,45 +165,45 @@ abbrev pub request_rules : List RuleRow
 request_rules =
     -- the request's body has at most 2,048 bytes. No request of this stage is sent in fragments, so the
     -- command is the request.
-    record { number = 8; status = always 0x6700; kinds = []; holds = λ s. nat_le (length s.command.body) MAX_REQUEST } ∷ []
+    record { number = 8; status = fixed 0x6700; kinds = []; holds = λ s. nat_le (length s.command.body) MAX_REQUEST } ∷ []
 
 -- whether a command of its kind is carried out
 abbrev pub kind_rules : List RuleRow
 kind_rules =
     -- the step is the run's next one
-    record { number = 9; status = always 0x6985; kinds = NoStep ∷ []; holds = λ s. false } ∷
+    record { number = 9; status = fixed 0x6985; kinds = NoStep ∷ []; holds = λ s. false } ∷
     -- the body has the form of the kind
-    record { number = 10; status = always 0x6A80; kinds = []; holds = λ s. is_formed s.kind s.command.body } ∷
+    record { number = 10; status = fixed 0x6A80; kinds = []; holds = λ s. is_formed s.kind s.command.body } ∷
     -- the password's reference is that of the CAN
-    record { number = 11; status = always 0x6A88; kinds = SelectPace ∷ []; holds = λ s. is_can (selection_in s.command.body) } ∷
+    record { number = 11; status = fixed 0x6A88; kinds = SelectPace ∷ []; holds = λ s. is_can (selection_in s.command.body) } ∷
     -- by offset alone: there is a current file
-    record { number = 12; status = always 0x6986; kinds = ReadBinary ∷ []; holds = λ s. is_by_short s.command || is_some s.state.current } ∷
+    record { number = 12; status = fixed 0x6986; kinds = ReadBinary ∷ []; holds = λ s. is_by_short s.command || is_some s.state.current } ∷
     -- the identifier is the application's, or names a file
-    record { number = 13; status = always 0x6A82; kinds = SelectApplication ∷ SelectFile ∷ ReadBinary ∷ []; holds = λ s. is_named s.kind s } ∷
+    record { number = 13; status = fixed 0x6A82; kinds = SelectApplication ∷ SelectFile ∷ ReadBinary ∷ []; holds = λ s. is_named s.kind s } ∷
     -- the session has a successful PACE, but for EF.CardAccess
-    record { number = 20; status = always 0x6982; kinds = ReadBinary ∷ []; holds = λ s. is_card_access (file_meant s) || is_some s.state.pace } ∷
+    record { number = 20; status = fixed 0x6982; kinds = ReadBinary ∷ []; holds = λ s. is_card_access (file_meant s) || is_some s.state.pace } ∷
     -- for a data group: terminal authentication succeeded. No kind of this stage can have brought one.
-    record { number = 26; status = always 0x6982; kinds = ReadBinary ∷ []; holds = λ s. not (is_data_group (file_meant s)) } ∷
+    record { number = 26; status = fixed 0x6982; kinds = ReadBinary ∷ []; holds = λ s. not (is_data_group (file_meant s)) } ∷
     -- the file is present
-    record { number = 37; status = always 0x6A82; kinds = ReadBinary ∷ []; holds = λ s. is_some (file_of s.kept (file_meant s)) } ∷
+    record { number = 37; status = fixed 0x6A82; kinds = ReadBinary ∷ []; holds = λ s. is_some (bytes_of_file s.kept (file_meant s)) } ∷
     -- the offset is at most the file's length
-    record { number = 38; status = always 0x6B00; kinds = ReadBinary ∷ []; holds = λ s. nat_le (offset_meant s.command) (length (unwrap_or (file_of s.kept (file_meant s)) [])) } ∷ []
+    record { number = 38; status = fixed 0x6B00; kinds = ReadBinary ∷ []; holds = λ s. nat_le (offset_meant s.command) (length (unwrap_or (bytes_of_file s.kept (file_meant s)) [])) } ∷ []
 
 -- whether the coprocessor's answers let the command go on
 abbrev pub answer_rules : List RuleRow
 answer_rules =
     -- no question of this command met a fault
-    record { number = 50; status = always 0x6F00; kinds = []; holds = λ s. not (list_any is_fault s.answers) } ∷
+    record { number = 50; status = fixed 0x6F00; kinds = []; holds = λ s. not (list_any is_fault s.answers) } ∷
     -- the terminal's ephemeral point differs from the chip's
-    record { number = 51; status = always 0x6300; kinds = PerformKeyAgreement ∷ []; holds = λ s. not (is_own_point (data_in s.command.body) s.answers) } ∷
+    record { number = 51; status = fixed 0x6300; kinds = PerformKeyAgreement ∷ []; holds = λ s. not (is_own_point (data_in s.command.body) s.answers) } ∷
     -- no question was answered with no point
-    record { number = 52; status = always 0x6A80; kinds = MapNonce ∷ PerformKeyAgreement ∷ []; holds = λ s. not (list_any is_no_point s.answers) } ∷ []
+    record { number = 52; status = fixed 0x6A80; kinds = MapNonce ∷ PerformKeyAgreement ∷ []; holds = λ s. not (list_any is_no_point s.answers) } ∷ []
 
 -- whether what the terminal proves is right
 abbrev pub proof_rules : List RuleRow
 proof_rules =
     -- the token is right
-    record { number = 55; status = always 0x6300; kinds = MutualAuthentication ∷ []; holds = λ s. is_token (data_in s.command.body) s.state.phase } ∷ []
+    record { number = 55; status = fixed 0x6300; kinds = MutualAuthentication ∷ []; holds = λ s. is_token (data_in s.command.body) s.state.phase } ∷ []
 
 -- the rule concerns the kind
 abbrev pub concerns : List Kind → Option Kind → Bool

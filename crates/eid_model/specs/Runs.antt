@@ -25,8 +25,8 @@ pub record Step : Type 0 where
   pub answers : List Answer
 
 -- the kind that the moment carried out, where it succeeded and this step came next in the run
-abbrev pub done : Option Kind → PlainMoment → Option Kind
-done next m = if succeeded m then option_and_then (kind_named next) m.plain else None
+abbrev pub kind_done : Option Kind → PlainMoment → Option Kind
+kind_done next m = if succeeded m then option_and_then (kind_named next) m.plain else None
 
 -- the step that comes next in a run
 abbrev pub next : List Step → Option Kind
@@ -44,7 +44,7 @@ continued (Some kind) (Some c) answers run =
 
 abbrev pub run : List PlainMoment → List Step
 run [] = []
-run (m ∷ before) = continued (done (next (run before)) m) m.plain (answers_of m.asks) (run before)
+run (m ∷ before) = continued (kind_done (next (run before)) m) m.plain (answers_of m.asks) (run before)
 
 -- What later steps need of a run.
 pub data Phase : Type 0 where

@@ -11,11 +11,11 @@ use Rattle.eid_model.specs.declared.kind.Kind.{Kind}
 use Rattle.eid_model.specs.declared.kind.Kind.TheVariants.{SelectApplication, SelectMasterFile, SelectFile, ReadBinary, SelectPace, EncryptedNonce, MapNonce, PerformKeyAgreement, MutualAuthentication, NoStep}
 use Rattle.eid_model.specs.Kinds.{is_by_short, file_of_short, file_of_id}
 use Rattle.eid_model.specs.Moments.{PlainMoment, live}
-use Rattle.eid_model.specs.Runs.{done, run, next, Phase, Idle, Chose, SentNonce, HasBase, HasSecret, phase}
+use Rattle.eid_model.specs.Runs.{kind_done, run, next, Phase, Idle, Chose, SentNonce, HasBase, HasSecret, phase}
 
 -- the kind that the newest moment carried out
-abbrev pub carried_out : PlainMoment → List PlainMoment → Option Kind
-carried_out m before = done (next (run before)) m
+abbrev pub kind_of_moment : PlainMoment → List PlainMoment → Option Kind
+kind_of_moment m before = kind_done (next (run before)) m
 
 -- what a kind carried out makes of the selection: the application, or the master file
 abbrev pub selects : Kind → Option Bool
@@ -56,13 +56,13 @@ naming kind plain = option_and_then (λ k. option_and_then (names k) plain) kind
 -- the last of the application and the master file to be selected is the application
 abbrev pub selected : List PlainMoment → Bool
 selected [] = false
-selected (m ∷ before) = unwrap_or (selection (carried_out m before)) (selected before)
+selected (m ∷ before) = unwrap_or (selection (kind_of_moment m before)) (selected before)
 
 -- the file last named after the last selection of the application or of the master file
 abbrev pub current : List PlainMoment → Option ℕ
 current [] = None
 current (m ∷ before) =
-    if is_some (selection (carried_out m before)) then None else option_or (naming (carried_out m before) m.plain) (current before)
+    if is_some (selection (kind_of_moment m before)) then None else option_or (naming (kind_of_moment m before) m.plain) (current before)
 
 -- the PACE that ends with a secret agreed
 abbrev pub done_with : Phase → Option PlainDone
@@ -89,21 +89,21 @@ abbrev pub pace_by : Option Kind → Phase → Option PlainDone
 pace_by None phase = None
 pace_by (Some kind) phase = pace_done kind phase
 
--- the PACE that the newest moment completed
-abbrev pub completed : PlainMoment → List PlainMoment → Option PlainDone
-completed m before = pace_by (carried_out m before) (phase (run before))
+-- the PACE that the newest moment pace_completed
+abbrev pub pace_completed : PlainMoment → List PlainMoment → Option PlainDone
+pace_completed m before = pace_by (kind_of_moment m before) (phase (run before))
 
 -- the last PACE
 abbrev pub pace : List PlainMoment → Option PlainDone
 pace [] = None
-pace (m ∷ before) = option_or (completed m before) (pace before)
+pace (m ∷ before) = option_or (pace_completed m before) (pace before)
 
--- the keys that the newest moment opened a channel with: those of the PACE that it completed
+-- the keys that the newest moment opened a channel with: those of the PACE that it pace_completed
 abbrev pub keys_of : PlainDone → Keys
 keys_of done = record { enc = done.enc; mac = done.mac }
 
 abbrev pub opened : PlainMoment → List PlainMoment → Option Keys
-opened m before = option_map keys_of (completed m before)
+opened m before = option_map keys_of (pace_completed m before)
 
 -- the keys of the channel that was opened last
 abbrev pub channel_keys : List PlainMoment → Option Keys

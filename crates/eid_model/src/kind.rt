@@ -1,5 +1,5 @@
 /// The kinds of commands, in the order of their table (ISO/IEC 7816-4, BSI TR-03110-3).
-#[derive(Clone, Copy, Debug, PartialEq, Eq, Hash)]
+#[derive(Clone, Copy)]
 pub enum Kind {
     /// SELECT of the eID application by its identifier.
     SelectApplication,

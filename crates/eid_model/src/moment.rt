@@ -12,7 +12,7 @@ use eid_copro::Ask;
 pub const MAX_BODY: usize = 2200;
 
 /// What came from outside.
-#[derive(Debug, Drop)]
+#[derive(Drop)]
 pub enum Input {
     /// Power, and the commit number that was found, or none where mounting was cut.
     On {
@@ -26,7 +26,7 @@ pub enum Input {
 }
 
 /// A command after secure messaging was taken off, with a body of its own.
-#[derive(Debug, Drop)]
+#[derive(Drop)]
 pub struct Plain {
     /// The class byte.
     pub cla: u8,
@@ -62,7 +62,7 @@ pub struct Moment {
 }
 
 /// What came from outside, over bytes that stand elsewhere.
-#[derive(Clone, Copy, Debug)]
+#[derive(Clone, Copy)]
 pub enum InputRef<'a> {
     /// As `Input::On`.
     On {

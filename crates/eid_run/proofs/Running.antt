@@ -20,8 +20,8 @@ use Rattle.eid_model.specs.Moments.{Event, PoweredOn, PoweredOff, Received, Plai
 use Rattle.eid_model.specs.Trace.{text, trace}
 use Rattle.eid_model.proofs.Journals.{only_journal}
 use Rattle.eid_chip.specs.Commits.{WasCutBehind}
-use Rattle.eid_chip.specs.Fits.{Scene, scene, Fits, Follows, Handles, IsSound, IsSoundLife, Came, Silence, Answer, Loss, CameOver, moment_of, is_silence, leaves_off, found, is_off}
-use Rattle.eid_chip.specs.States.{ChipView, Living}
+use Rattle.eid_chip.specs.Fits.{Scene, scene, Fits, Follows, Handles, IsSound, IsSoundRunning, Came, Silence, Answer, Loss, CameOver, moment_of, is_silence, leaves_off, found, is_off}
+use Rattle.eid_chip.specs.States.{ChipView, RunningView}
 use Rattle.eid_script.specs.declared.script.Line.{Line}
 use Rattle.eid_script.specs.Scripts.{ScriptLine, OnLine, OffLine, ApduLine, CutLine, plain_line}
 use Rattle.eid_run.specs.Runs.{LineEffect, Did, Planned, line_for, journal, is_plan, is_cut_line, line_of, text_of, was_cut, planned_by, IsLine, Keeps, DidLine, BrokeOffLine, IsFrontOfTrace, IsRunSoFar, RanLines, DidSomeLines, Outside}
@@ -45,11 +45,11 @@ line_on old new r writes log good follows device = record {
   step = follows;
   logged = sym (append-nil log);
   carried = refl;
-  cause = λ lost. (device.cut (found_lost r (is_some old.chip.life) good lost)).rose;
-  unplanned = λ told none. found_kept r (is_some old.chip.life) good (λ is. let struck = device.struck told is in absurd (omega (arith, struck.0, none)));
+  cause = λ lost. (device.cut (found_lost r (is_some old.chip.running) good lost)).rose;
+  unplanned = λ told none. found_kept r (is_some old.chip.running) good (λ is. let struck = device.struck told is in absurd (omega (arith, struck.0, none)));
 }
 
-pub keeps_on : (old new : Scene) (r : Result ℕ MountError) (writes : ℕ) → r ≢ Err BadImage → Mounts writes (record old.device { has_power = true }) new.device r → IsSound new → OnErr r (new.chip.life ≡ None)
+pub keeps_on : (old new : Scene) (r : Result ℕ MountError) (writes : ℕ) → r ≢ Err BadImage → Mounts writes (record old.device { has_power = true }) new.device r → IsSound new → OnErr r (new.chip.running ≡ None)
     → slice_index new.cells 0 ≡ slice_index old.cells 0 → (OnOk r (is_off new.chip ≡ false)) → Keeps old new OnLine
 keeps_on old new (Ok number) writes good device sound off layout alive = record {
   sound = sound;
@@ -76,9 +76,9 @@ keeps_on old new (Err BadImage) writes good device sound off layout alive = absu
 pub line_off : (old new : Scene) (log : List Ask) → Follows old new (silent PoweredOff) → IsLine old new log log OffLine (Did (silent PoweredOff))
 line_off old new log follows = record { step = follows; logged = sym (append-nil log); carried = refl; cause = λ lost. absurd (cc); unplanned = λ told none. refl }
 
-pub keeps_off : (old new : Scene) → new.chip.life ≡ None → new.cells ≡ old.cells → new.device ≡ record old.device { has_power = false } → Keeps old new OffLine
+pub keeps_off : (old new : Scene) → new.chip.running ≡ None → new.cells ≡ old.cells → new.device ≡ record old.device { has_power = false } → Keeps old new OffLine
 keeps_off old new off cells device = record {
-  sound = subst (λ (l : Option Living). IsSoundLife l new.device new.cells) (sym off) tt;
+  sound = subst (λ (l : Option RunningView). IsSoundRunning l new.device new.cells) (sym off) tt;
   dark = λ before is. ap (λ (d : Device). d.has_power) device;
   layout = ap (λ (c : List ℕ). slice_index c 0) cells;
   told = ap (λ (d : Device). d.told) device;
@@ -125,28 +125,28 @@ lost_planned powered bytes asks (Loss plain finished) old new over off told none
     let planned : over.between.planned ≡ old.planned - over.wrote.writes = ap (λ (d : Device). d.planned) over.wrote.device in
     absurd (omega (arith, struck.0, planned, none))
 
-silent_off : (b : Bool) (life : Option Living) → b ≡ is_none life → b ≡ true → is_some life ≡ false
+silent_off : (b : Bool) (running : Option RunningView) → b ≡ is_none running → b ≡ true → is_some running ≡ false
 silent_off b None is s = refl
-silent_off b (Some living) is s = absurd (cc)
+silent_off b (Some running) is s = absurd (cc)
 
 pub line_handled : (before after : CoproSeen) (old new : Scene) (bytes : List ℕ) (came : Came) (log : List Ask) (told : List Ask) (m : PlainMoment) (handles : Handles before after old new bytes came) → before.log ≡ log → told ≡ handles.asks → m ≡ moment_of bytes told came
     → IsLine old new log after.log (ApduLine bytes) (Did m)
 line_handled before after old new bytes came log told m handles same so is =
     let event = moment_of bytes handles.asks came in
-    let off : is_silence came ≡ true → is_some old.chip.life ≡ false = λ s. silent_off (is_silence came) old.chip.life handles.silent s in
+    let off : is_silence came ≡ true → is_some old.chip.running ≡ false = λ s. silent_off (is_silence came) old.chip.running handles.silent s in
     let line : IsLine old new log after.log (ApduLine bytes) (Did event) = record {
       step = handles.follows;
       logged = handles.were_asked.logged ∙ ap (λ (l : List Ask). l ++ handles.asks) same ∙ ap (λ (l : List Ask). log ++ l) (sym (came_asks bytes handles.asks came handles.unasked));
       carried = came_input bytes handles.asks came;
-      cause = lost_rose (is_some old.chip.life) bytes handles.asks came old.device new.device handles.device off;
-      unplanned = lost_planned (is_some old.chip.life) bytes handles.asks came old.device new.device handles.device off;
+      cause = lost_rose (is_some old.chip.running) bytes handles.asks came old.device new.device handles.device off;
+      unplanned = lost_planned (is_some old.chip.running) bytes handles.asks came old.device new.device handles.device off;
     } in
     subst (λ (x : PlainMoment). IsLine old new log after.log (ApduLine bytes) (Did x)) (sym (is ∙ ap (λ (a : List Ask). moment_of bytes a came) so)) line
 
 pub keeps_handled : (before after : CoproSeen) (old new : Scene) (bytes : List ℕ) (came : Came) → Handles before after old new bytes came → Keeps old new (ApduLine bytes)
-keeps_handled before after old new bytes came handles = by came handles.device handles.silent handles.life where
+keeps_handled before after old new bytes came handles = by came handles.device handles.silent handles.running where
   by : (c : Came) → CameOver c old.device new.device → is_silence c ≡ is_off old.chip → is_off new.chip ≡ leaves_off c → Keeps old new (ApduLine bytes)
-  by Silence over silent life = record {
+  by Silence over silent running = record {
     sound = handles.sound;
     dark = λ before is. ap (λ (d : Device). d.has_power) over ∙ before (sym silent);
     layout = handles.layout;
@@ -154,7 +154,7 @@ keeps_handled before after old new bytes came handles = by came handles.device h
     later = omega (arith, ap (λ (d : Device). d.cuts) over);
     unplanned = λ told plain none. ap (λ (d : Device). d.planned) over ∙ none;
   }
-  by (Answer plain finished rule reply sent) over silent life = record {
+  by (Answer plain finished rule reply sent) over silent running = record {
     sound = handles.sound;
     dark = λ before is. absurd (cc);
     layout = handles.layout;
@@ -162,7 +162,7 @@ keeps_handled before after old new bytes came handles = by came handles.device h
     later = omega (arith, ap (λ (d : Device). d.cuts) over.device);
     unplanned = λ told plain none. ap (λ (d : Device). d.planned) over.device ∙ rw none (omega arith);
   }
-  by (Loss plain finished) over silent life = record {
+  by (Loss plain finished) over silent running = record {
     sound = handles.sound;
     dark = λ before is. over.cut.power;
     layout = handles.layout;
@@ -173,9 +173,9 @@ keeps_handled before after old new bytes came handles = by came handles.device h
 
 -- ---- a plan
 
-sound_life : (life : Option Living) (old new : Device) (cells : List ℕ) → new.has_power ≡ old.has_power → IsSoundLife life old cells → IsSoundLife life new cells
-sound_life None old new cells same sound = tt
-sound_life (Some living) old new cells same sound = refitting living.store old new cells sound (same ∙ powered living.store old cells sound)
+sound_running : (running : Option RunningView) (old new : Device) (cells : List ℕ) → new.has_power ≡ old.has_power → IsSoundRunning running old cells → IsSoundRunning running new cells
+sound_running None old new cells same sound = tt
+sound_running (Some running) old new cells same sound = refitting running.store old new cells sound (same ∙ powered running.store old cells sound)
 
 planned_power : (write : ℕ) (device : Device) → (planned_by write device).has_power ≡ device.has_power
 planned_power write device = by (write == 0) where
@@ -216,7 +216,7 @@ pub keeps_planned : (chip : ChipView) (old new : Device) (cells cells_now : List
 keeps_planned chip old new cells cells_now write tear is same sound =
     let power : new.has_power ≡ old.has_power = ap (λ (d : Device). d.has_power) is ∙ planned_power write old in
     record {
-      sound = rw same (sound_life chip.life old new cells power sound);
+      sound = rw same (sound_running chip.running old new cells power sound);
       dark = λ before off. power ∙ before off;
       layout = ap (λ (c : List ℕ). slice_index c 0) same;
       told = ap (λ (d : Device). d.told) is ∙ planned_told write old;
@@ -271,19 +271,19 @@ holds_some (Some effect) full holds (inr is) = rw is refl
 
 -- ---- runs
 
--- a chip that is off has no life
-alive_on : (life : Option Living) (power : Bool) → is_some life ≡ power → power ≡ false → is_none life ≡ true
+-- a chip that is off does not run
+alive_on : (running : Option RunningView) (power : Bool) → is_some running ≡ power → power ≡ false → is_none running ≡ true
 alive_on None power is off = refl
-alive_on (Some living) power is off = absurd (cc)
+alive_on (Some running) power is off = absurd (cc)
 
 -- where the chip is on, its device has power
 powered_on : (s : Scene) (moments : List PlainMoment) (opening : FullRecord) → Fits s opening moments → (is_off s.chip ≡ true → s.device.has_power ≡ false) → s.device.has_power ≡ on moments
-powered_on s moments opening fits dark = by s.chip.life refl where
-  by : (life : Option Living) → s.chip.life ≡ life → s.device.has_power ≡ on moments
+powered_on s moments opening fits dark = by s.chip.running refl where
+  by : (running : Option RunningView) → s.chip.running ≡ running → s.device.has_power ≡ on moments
   by None is = dark (ap is_none is) ∙ sym (ap is_some is) ∙ fits.powered
-  by (Some living) is =
-      let sound : IsSoundLife (Some living) s.device s.cells = subst (λ (l : Option Living). IsSoundLife l s.device s.cells) is fits.sound in
-      powered living.store s.device s.cells sound ∙ sym (ap is_some is) ∙ fits.powered
+  by (Some running) is =
+      let sound : IsSoundRunning (Some running) s.device s.cells = subst (λ (l : Option RunningView). IsSoundRunning l s.device s.cells) is fits.sound in
+      powered running.store s.device s.cells sound ∙ sym (ap is_some is) ∙ fits.powered
 
 rose_either : (a b c : ℕ) → a ≤ b → b ≤ c → (Rose a c → ⊥) → Rose b c → ⊥
 rose_either a b c ab bc still rose = still (omega (arith, ab, bc, rose))
@@ -311,8 +311,8 @@ plan_is (Planned write tear) line is = rw (← is) refl
 planned_fits : (old new : Scene) (opening : FullRecord) (moments : List PlainMoment) (write : ℕ) → new ≡ record old { device = planned_by write old.device } → Fits old opening moments → Fits new opening moments
 planned_fits old new opening moments write is fits = rw is (record {
   powered = fits.powered;
-  sound = sound_life old.chip.life old.device (planned_by write old.device) old.cells (planned_power write old.device) fits.sound;
-  living = fits.living;
+  sound = sound_running old.chip.running old.device (planned_by write old.device) old.cells (planned_power write old.device) fits.sound;
+  state = fits.state;
   standing = fits.standing;
 })
 
@@ -321,8 +321,8 @@ more : (h : LineEffect) (opening : FullRecord) (start old new : Scene) (log_0 lo
     → IsLine old new log log_now line h → Keeps old new line → (IsTrue before.tells → Grew before.written now.written (text_of h)) → IsRunSoFar opening start new log_0 log_now (lines ++ line ∷ []) first now
 more (Did m) opening start old new log_0 log log_now lines line first before now tells run made keeps written =
     let step = made.step opening (journal run.happened) run.fits in
-    let alive : is_some old.chip.life ≡ on (journal run.happened) = run.fits.powered in
-    let lost_is : was_cut (is_some old.chip.life) (Did m) ≡ lost m (journal run.happened) = rw alive refl in
+    let alive : is_some old.chip.running ≡ on (journal run.happened) = run.fits.powered in
+    let lost_is : was_cut (is_some old.chip.running) (Did m) ≡ lost m (journal run.happened) = rw alive refl in
     let plain : is_cut_line line ≡ false = sym (plan_is (Did m) line made.carried) in
     record {
       happened = Did m ∷ run.happened;
@@ -330,7 +330,7 @@ more (Did m) opening start old new log_0 log log_now lines line first before now
       legal = (step.0, run.legal);
       steady = λ still. (
         run.steady (rose_first start.device.cuts old.device.cuts new.device.cuts run.later keeps.later still),
-        sym lost_is ∙ not_true (was_cut (is_some old.chip.life) (Did m)) (λ cut. rose_either start.device.cuts old.device.cuts new.device.cuts run.later keeps.later still (made.cause cut)),
+        sym lost_is ∙ not_true (was_cut (is_some old.chip.running) (Did m)) (λ cut. rose_either start.device.cuts old.device.cuts new.device.cuts run.later keeps.later still (made.cause cut)),
       );
       unplanned = λ told none unplanned.
           let earlier = run.unplanned told none unplanned in

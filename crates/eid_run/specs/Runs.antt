@@ -86,8 +86,8 @@ pub record IsLine (old new : Scene) (log log_now : List Ask) (line : ScriptLine)
   pub step : IsStep old new h
   pub logged : log_now ≡ log ++ asks_of h
   pub carried : line_of h ≡ line
-  pub cause : was_cut (is_some old.chip.life) h ≡ true → Rose old.device.cuts new.device.cuts
-  pub unplanned : IsTrue old.device.told → old.device.planned ≡ 0 → was_cut (is_some old.chip.life) h ≡ false
+  pub cause : was_cut (is_some old.chip.running) h ≡ true → Rose old.device.cuts new.device.cuts
+  pub unplanned : IsTrue old.device.told → old.device.planned ≡ 0 → was_cut (is_some old.chip.running) h ≡ false
 
 -- what every line leaves: where the chip is on its store fits, and where it is off the device has no power, if that was so
 -- before; the cell that names the layout is as before; cuts are counted; without a plan none comes up but by a line

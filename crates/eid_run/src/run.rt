@@ -93,7 +93,7 @@ fn moment_of<'a>(
             asks,
             finished,
             rule,
-            answer: Some(&exchange.answer),
+            answer: Some(&exchange.reply),
             sent: Some(exchange.sent.as_slice()),
         },
         HandledIn::Lost { plain, finished } => MomentRef {

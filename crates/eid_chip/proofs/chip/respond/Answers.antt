@@ -1,13 +1,13 @@
--- What was heard without a channel is what read_command says.
+-- What was incoming without a channel is what read_command says.
 use Rattle.std.proofs.Common.{◌≡◌, ◌<◌, ◌≤◌, ℕ, List, length, ap, refl, Some, None, arith}
 use Rattle.eid_base.specs.declared.codes.Rule.{Rule}
 use Rattle.eid_apdu.specs.Command.{PlainCommand, Spells, plain_command}
 use Rattle.eid_apdu.specs.Answer.{plain_reply}
 use Rattle.eid_apdu.proofs.OneCommand.{spells_one}
-use Rattle.eid_model.specs.Rules.{NoCommand, Command}
+use Rattle.eid_model.specs.Rules.{NoCommand, OfCommand}
 use Rattle.eid_chip.specs.Held.{held}
 use Rattle.eid_chip.specs.States.{state}
-use Rattle.eid_chip.proofs.Outcomes.{hearing_refused, refused_responds}
+use Rattle.eid_chip.proofs.Outcomes.{transport_refused, refused_responds}
 use Rattle.eid_chip.proofs.chip.respond.Goals as goal
 
 -- bytes that spell a command whose body is too long spell none with a shorter one
@@ -21,7 +21,7 @@ returns-in_default-clause-responds g c =
     let kept = held (g.E.Eeprom.cells c.args.cells.now) in
     refused_responds NoCommand c.args.session None c.args.bytes.now _ c.without_command.result.ending c.refused.result (plain_reply c.refused.new.reply) (g.C.Coprocessor.seen c.args.copro.now) c.args.store.now _ _ c.requires.mounted
     (λ d spelled short. c.in_default.ensures.only d spelled) refl (rw c.without_command.ensures.0 refl) c.without_command.ensures.1
-    (hearing_refused kept (state c.args.session None) NoCommand (record { rule = 1; status = 0x6700 }) c.refused.result (plain_reply c.refused.new.reply) refl refl
+    (transport_refused kept (state c.args.session None) NoCommand (record { rule = 1; status = 0x6700 }) c.refused.result (plain_reply c.refused.new.reply) refl refl
     (ap (λ (r : Rule). r.0) c.refused.ensures.rule) c.refused.ensures.reply (c.refused.ensures.left None))
 
 pub returns-then-c-gt-MAX_BODY-clause-responds : goal.returns-then-c-gt-MAX_BODY-clause-responds
@@ -31,15 +31,15 @@ returns-then-c-gt-MAX_BODY-clause-responds g c =
     let without = c.without_command-then-c-gt-MAX_BODY in
     refused_responds NoCommand c.args.session None c.args.bytes.now _ without.result.ending refused.result (plain_reply refused.new.reply) (g.C.Coprocessor.seen c.args.copro.now) c.args.store.now _ _ c.requires.mounted
     (λ d spelled short. too_long c.args.bytes.now (plain_command c.in-Ok.c) d c.in-Ok.ensures.found spelled c.if-c-gt-MAX_BODY.true short) refl (rw without.ensures.0 refl) without.ensures.1
-    (hearing_refused kept (state c.args.session None) NoCommand (record { rule = 1; status = 0x6700 }) refused.result (plain_reply refused.new.reply) refl refl
+    (transport_refused kept (state c.args.session None) NoCommand (record { rule = 1; status = 0x6700 }) refused.result (plain_reply refused.new.reply) refl refl
     (ap (λ (r : Rule). r.0) refused.ensures.rule) refused.ensures.reply (refused.ensures.left None))
 
 pub returns-clause-responds : goal.returns-clause-responds
 returns-clause-responds g c =
     let did = c.react.ensures.reacts in
     record {
-      heard = Command (plain_command c.in-Ok.c);
-      hears = (c.in-Ok.ensures.found, c.if-c-gt-MAX_BODY.false);
+      incoming = OfCommand (plain_command c.in-Ok.c);
+      reads = (c.in-Ok.ensures.found, c.if-c-gt-MAX_BODY.false);
       is_plain = ap Some c.apart.ensures;
       asks = did.asks;
       were_asked = did.were_asked;

@@ -5,7 +5,7 @@ use Rattle.std.proofs.lemmas.Bool.Decides.{nat_tests}
 use Rattle.eid_model.specs.declared.kind.Kind.TheVariants.{ReadBinary}
 use Rattle.eid_model.specs.Kinds.{is_by_short}
 use Rattle.eid_apdu.specs.Command.{plain_command}
-use Rattle.eid_model.specs.Rules.{is_card_access, file_of, offset_meant}
+use Rattle.eid_model.specs.Rules.{is_card_access, bytes_of_file, offset_meant}
 use Rattle.eid_model.specs.Answers.{read_reply}
 use Rattle.eid_apdu.specs.Answer.{plain_reply}
 use Rattle.eid_chip.specs.Transitions.{two_messages_later}
@@ -33,7 +33,7 @@ returns-clause-told g c = λ channel.
     let out = c.answered.ensures in
     let later = option_map two_messages_later channel in
     let said = plain_reply c.put_answer.new.reply in
-    let reply : said ≡ read_reply (drop (offset_meant (plain_command c.args.c.now)) (unwrap_or (file_of kept (Some c.in-Some.file.0)) [])) c.args.c.now.ne =
+    let reply : said ≡ read_reply (drop (offset_meant (plain_command c.args.c.now)) (unwrap_or (bytes_of_file kept (Some c.in-Some.file.0)) [])) c.args.c.now.ne =
     c.put_answer.ensures.reply ∙ ap (λ (n : ℕ). read_reply (drop n (unwrap_or (held_file (g.E.Eeprom.cells c.args.cells.now) c.in-Some.file.0) [])) c.args.c.now.ne) c.meant_offset-offset.ensures in
     carried ReadBinary kept (state c.args.session channel) (plain_command c.args.c.now) c.answered.result said refl passes out.0 out.2
     (reply ∙ read_answers kept (state c.args.session channel) (plain_command c.args.c.now) _ meant)

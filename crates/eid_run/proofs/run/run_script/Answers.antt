@@ -2,8 +2,8 @@
 use Rattle.std.proofs.Common.{[], ◌+◌, Option, take, drop, map, refl, sym, subst, ap, ◌∙◌, arith, take_all, append-nil}
 use Rattle.eid_base.specs.declared.codes.RunError.TheVariants.{SinkFault}
 use Rattle.eid_store.specs.Stands.{stands}
-use Rattle.eid_chip.specs.Fits.{IsSoundLife}
-use Rattle.eid_chip.specs.States.{Living}
+use Rattle.eid_chip.specs.Fits.{IsSoundRunning}
+use Rattle.eid_chip.specs.States.{RunningView}
 use Rattle.eid_script.specs.Scripts.{plain_line}
 use Rattle.eid_run.specs.Runs.{outside}
 use Rattle.eid_run.proofs.Running.{ran_lines, ran_taken, broke_off, taken_apart, holds_some, some_of}
@@ -24,7 +24,7 @@ loop-line-init g c = record {
     logged = sym (append-nil _);
     written = λ told. sym (append-nil _);
   };
-  sound = subst (λ (l : Option Living). IsSoundLife l (g.E.Eeprom.device c.args.cells.now) (g.E.Eeprom.cells c.args.cells.now)) (sym c.new-chip.ensures.off) tt;
+  sound = subst (λ (l : Option RunningView). IsSoundRunning l (g.E.Eeprom.device c.args.cells.now) (g.E.Eeprom.cells c.args.cells.now)) (sym c.new-chip.ensures.off) tt;
   layout = refl;
   told = refl;
   tells = refl;

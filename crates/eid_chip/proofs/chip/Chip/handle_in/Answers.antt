@@ -7,33 +7,33 @@ use Rattle.eid_sm.specs.Keys.{ChannelState}
 use Rattle.eid_model.specs.Moments.{ends_session_by}
 use Rattle.eid_chip.specs.declared.reaction.Ending.{Ending}
 use Rattle.eid_chip.specs.Commits.{world}
-use Rattle.eid_chip.specs.States.{ChipView, living}
-use Rattle.eid_chip.specs.Steps.{heard_in, sent_next, rule_of}
+use Rattle.eid_chip.specs.States.{ChipView, running_view}
+use Rattle.eid_chip.specs.Steps.{message_in, sent_next, rule_of}
 use Rattle.eid_chip.proofs.Chips.{handles_answer, handles_loss, handles_silence, sent_so, kept_channel}
 use Rattle.eid_chip.proofs.chip.Chip.handle_in.Goals as goal
 
 pub returns-in_default-clause-handles : goal.returns-in_default-clause-handles
 returns-in_default-clause-handles g c =
-    let off : c.args.self.now.life ≡ None =
-    ap (λ (v : ChipView). v.life) (sym c.self.view_is) ∙ ap (option_map living) (sym c.replace.ensures.value ∙ c.in_default.is) in
-    handles_silence c.args.self.now (option_map living c.replace.new.dest) c.args.bytes.now _ _ _ off (ap (option_map living) c.replace.ensures.after)
+    let off : c.args.self.now.running ≡ None =
+    ap (λ (v : ChipView). v.running) (sym c.self.view_is) ∙ ap (option_map running_view) (sym c.replace.ensures.value ∙ c.in_default.is) in
+    handles_silence c.args.self.now (option_map running_view c.replace.new.dest) c.args.bytes.now _ _ _ off (ap (option_map running_view) c.replace.ensures.after)
 
 pub returns-in-Answered-clause-handles : goal.returns-in-Answered-clause-handles
 returns-in-Answered-clause-handles g c =
     let running = c.in-Some.running in
     let r = c.in-Answered.reaction in
-    let said = plain_reply c.respond_any-plain.new.exchange.answer in
+    let said = plain_reply c.respond_any-plain.new.exchange.reply in
     let was = world (g.C.Coprocessor.seen c.args.copro.now) running.store (g.E.Eeprom.device c.args.cells.now) (g.E.Eeprom.cells c.args.cells.now) in
     let now = world (g.C.Coprocessor.seen c.respond_any-plain.new.copro) c.respond_any-plain.new.store (g.E.Eeprom.device c.respond_any-plain.new.cells) (g.E.Eeprom.cells c.respond_any-plain.new.cells) in
-    let alive : c.args.self.now.life ≡ Some (living running) =
-    ap (λ (v : ChipView). v.life) (sym c.self.view_is) ∙ ap (option_map living) (sym c.replace.ensures.value ∙ c.in-Some.is) in
-    let heard : c.respond_any-plain.new.channel ≡ heard_in r.rule.0 running.channel =
-    c.respond_any-plain.ensures.channel ∙ ap (λ (e : Ending). heard_in (rule_of e) running.channel) c.in-Answered.is in
+    let alive : c.args.self.now.running ≡ Some (running_view running) =
+    ap (λ (v : ChipView). v.running) (sym c.self.view_is) ∙ ap (option_map running_view) (sym c.replace.ensures.value ∙ c.in-Some.is) in
+    let incoming : c.respond_any-plain.new.channel ≡ message_in r.rule.0 running.channel =
+    c.respond_any-plain.ensures.channel ∙ ap (λ (e : Ending). message_in (rule_of e) running.channel) c.in-Answered.is in
     let written : c.go_on.new.exchange.sent.items ≡ _ =
-    c.go_on.ensures.sent ∙ ap (λ (ch : Option ChannelState). sent_next ch r.rule.0 said) heard ∙ sent_so running.channel r.rule.0 said in
+    c.go_on.ensures.sent ∙ ap (λ (ch : Option ChannelState). sent_next ch r.rule.0 said) incoming ∙ sent_so running.channel r.rule.0 said in
     let kept : c.go_on.result.channel ≡ _ =
     c.go_on.ensures.channel
-    ∙ ap (λ (ch : Option ChannelState). if ends_session_by r.rule.0 then None else option_or r.opened (heard_in r.rule.0 ch)) heard
+    ∙ ap (λ (ch : Option ChannelState). if ends_session_by r.rule.0 then None else option_or r.opened (message_in r.rule.0 ch)) incoming
     ∙ kept_channel running.channel r.opened r.rule.0 in
     rw (c.go_on.ensures.said.0, c.go_on.ensures.said.1)
     (handles_answer c.args.self.now running c.go_on.result c.args.bytes.now _ c.respond_any-plain.result.ending r c.in-Answered.finished said c.go_on.new.exchange.sent.items was now
@@ -42,9 +42,9 @@ returns-in-Answered-clause-handles g c =
 pub returns-in-Lost-clause-handles : goal.returns-in-Lost-clause-handles
 returns-in-Lost-clause-handles g c =
     let running = c.in-Some.running in
-    let alive : c.args.self.now.life ≡ Some (living running) =
-    ap (λ (v : ChipView). v.life) (sym c.self.view_is) ∙ ap (option_map living) (sym c.replace.ensures.value ∙ c.in-Some.is) in
+    let alive : c.args.self.now.running ≡ Some (running_view running) =
+    ap (λ (v : ChipView). v.running) (sym c.self.view_is) ∙ ap (option_map running_view) (sym c.replace.ensures.value ∙ c.in-Some.is) in
     let was = world (g.C.Coprocessor.seen c.args.copro.now) running.store (g.E.Eeprom.device c.args.cells.now) (g.E.Eeprom.cells c.args.cells.now) in
     let now = world (g.C.Coprocessor.seen c.respond_any-plain.new.copro) c.respond_any-plain.new.store (g.E.Eeprom.device c.respond_any-plain.new.cells) (g.E.Eeprom.cells c.respond_any-plain.new.cells) in
-    handles_loss c.args.self.now running (option_map living c.replace.new.dest) c.args.bytes.now _ c.respond_any-plain.result.ending c.in-Lost.finished
-    (plain_reply c.respond_any-plain.new.exchange.answer) was now alive c.respond_any-plain.ensures.responds c.in-Lost.is (ap (option_map living) c.replace.ensures.after)
+    handles_loss c.args.self.now running (option_map running_view c.replace.new.dest) c.args.bytes.now _ c.respond_any-plain.result.ending c.in-Lost.finished
+    (plain_reply c.respond_any-plain.new.exchange.reply) was now alive c.respond_any-plain.ensures.responds c.in-Lost.is (ap (option_map running_view) c.replace.ensures.after)

@@ -14,7 +14,7 @@ returns-in-Ok-clause-follows g c = λ good.
 
 pub returns-in-Ok-clause-begins : goal.returns-in-Ok-clause-begins
 returns-in-Ok-clause-begins g c = λ opening standing.
-    let off = scene (record { life = None }) (g.E.Eeprom.device c.args.cells.now) (g.E.Eeprom.cells c.args.cells.now) in
+    let off = scene (record { running = None }) (g.E.Eeprom.device c.args.cells.now) (g.E.Eeprom.cells c.args.cells.now) in
     let follows = on_follows off _ c.in-Ok.store c.kept.result.now.number
     (ap (λ (s : State). Some (record { store = c.in-Ok.store; state = s })) c.new.ensures) c.in-Ok.ensures.fits (c.mount.ensures.same ∙ rw c.power.ensures.cells refl)
     (ap (λ (r : PlainRecord). r.number) c.kept.ensures) in
