@@ -37,7 +37,7 @@ mac_object_is key start objects = small_object _ (length-mac8 key _)
 
 pub length-mac_object : (key start objects : List ℕ) → length (mac_object key start objects) ≡ 10
 length-mac_object key start objects =
-    let code : length (mac8 key (start ++ padded_objects objects)) ≡ 8 = length-mac8 key _ in
+    let eight : length (mac8 key (start ++ padded_objects objects)) ≡ 8 = length-mac8 key _ in
     ap length (mac_object_is key start objects) ∙ omega arith
 
 length-encrypted_blocks : (n : ℕ) (key iv bytes : List ℕ) → length (concat (encrypted_blocks key iv (blocks n bytes))) ≡ 16 * n

@@ -55,17 +55,17 @@ listed_encrypted key count (b ∷ bs) short =
 pub mac_is_there : (key start bytes : List ℕ) → AreListed bytes → HasNoMac (with_mac key start bytes) → ⊥
 unfolding mac_object
 mac_is_there key start bytes listed none =
-    let code : List ℕ = mac8 key (start ++ padded_objects bytes) in
-    let last : Object = record { tag = 0x8E; value = code } in
-    let fits : IsObject 0x8E code = record { tagged = refl; sized = omega (arith, length-mac8 key (start ++ padded_objects bytes)) } in
-    let whole = joined listed.list (last ∷ []) bytes (object 0x8E code) listed.is_list (single 0x8E code fits) in
+    let mac : List ℕ = mac8 key (start ++ padded_objects bytes) in
+    let last : Object = record { tag = 0x8E; value = mac } in
+    let fits : IsObject 0x8E mac = record { tagged = refl; sized = omega (arith, length-mac8 key (start ++ padded_objects bytes)) } in
+    let whole = joined listed.list (last ∷ []) bytes (object 0x8E mac) listed.is_list (single 0x8E mac fits) in
     let test : Object → Bool = λ (o : Object). o.tag == 0x8E in
-    let those : values 0x8E (listed.list ++ last ∷ []) ≡ values 0x8E listed.list ++ code ∷ [] =
+    let those : values 0x8E (listed.list ++ last ∷ []) ≡ values 0x8E listed.list ++ mac ∷ [] =
     ap (λ list. map (λ (o : Object). o.value) list) (filter-append test listed.list (last ∷ []))
     ∙ map-append (λ (o : Object). o.value) (filter test listed.list) (last ∷ []) in
     let same = one_list _ none.list (listed.list ++ last ∷ []) none.is_list whole in
-    let size : length (values 0x8E listed.list ++ code ∷ []) ≡ 0 = ap length (sym those ∙ ap (λ list. values 0x8E list) (sym same) ∙ none.those) in
-    omega (arith, length-append (values 0x8E listed.list) (code ∷ []))
+    let size : length (values 0x8E listed.list ++ mac ∷ []) ≡ 0 = ap length (sym those ∙ ap (λ list. values 0x8E list) (sym same) ∙ none.those) in
+    omega (arith, length-append (values 0x8E listed.list) (mac ∷ []))
 
 -- ---- what is found of object 8E
 

@@ -164,12 +164,12 @@ one_sealed keys n bytes r s octets p q =
     let count : List ℕ = counter_bytes n in
     let first : List ℕ = with_mac keys.mac count (reply_objects keys.enc count r.content (status_bytes r.status)) in
     let second : List ℕ = with_mac keys.mac count (reply_objects keys.enc count s.content (status_bytes s.status)) in
-    let codes : first ≡ second =
+    let macs : first ≡ second =
     sym (before_end bytes first (status_bytes r.status) 2 p.written refl) ∙ before_end bytes second (status_bytes s.status) 2 q.written refl in
     let ends : status_bytes r.status ≡ status_bytes s.status =
     sym (after_before bytes first (status_bytes r.status) 2 p.written refl) ∙ after_before bytes second (status_bytes s.status) 2 q.written refl in
     let parts = same_encrypted keys.enc count r.content s.content (object 0x99 (status_bytes r.status)) (object 0x99 (status_bytes s.status)) octets (counter_block n) p.octets q.octets
-    (status_behind _ _) (status_behind _ _) (same_objects keys.mac _ _ _ _ codes) in
+    (status_behind _ _) (status_behind _ _) (same_objects keys.mac _ _ _ _ macs) in
     let high : r.status / 256 ≡ s.status / 256 = cc in
     let low : r.status % 256 ≡ s.status % 256 = cc in
     let content : r.content ≡ s.content = parts.0 in

@@ -6,8 +6,8 @@ use Rattle.eid_sm.proofs.reading.without_mac.Goals as goal
 
 pub returns-then-bytes-lt10-clause-only : goal.returns-then-bytes-lt10-clause-only
 returns-then-bytes-lt10-clause-only g c = λ objects e.
-    let code : List ℕ = mac_object c.args.mac.now c.args.start.now objects in
-    absurd (omega (arith, c.if-bytes-lt10.true, size_with_end c.args.bytes.now objects code e, length-mac_object c.args.mac.now c.args.start.now objects))
+    let object : List ℕ = mac_object c.args.mac.now c.args.start.now objects in
+    absurd (omega (arith, c.if-bytes-lt10.true, size_with_end c.args.bytes.now objects object e, length-mac_object c.args.mac.now c.args.start.now objects))
 
 pub returns-clause-only : goal.returns-clause-only
 returns-clause-only g c = λ objects e.
