@@ -5,9 +5,10 @@ use Rattle.std.specs.declared.alloc.Global.{Global}
 use Rattle.std.proofs.lemmas.Bool.Decides.{nat_tests}
 use Rattle.eid.specs.declared.exit.Exit.{Exit}
 use Rattle.eid.specs.declared.exit.Exit.TheVariants.{Done, Usage, FileFault, NoMemory, BadImage, BadScript, BadConfig, SinkFault, BadAnswers}
-use Rattle.eid_script.specs.Scripts.{script_of, script_limit}
+use Rattle.eid_text.specs.Lines.{text_limit}
+use Rattle.eid_script.specs.Scripts.{script_of}
 use Rattle.eid_copro.specs.Lines.{answers_of}
-use Rattle.eid.specs.Configs.{config_of}
+use Rattle.eid_perso.specs.Reading.{config_of, document_in}
 use Rattle.eid.specs.Images.{record_of}
 use Rattle.eid_record.specs.Plain.{FullRecord}
 use Rattle.eid_store.specs.Stands.{stands}
@@ -58,12 +59,12 @@ pub script_is : (file : Option (List ℕ)) (text : List ℕ) → file ≡ Some t
 unfolding script_in
 script_is file text is = rw is refl
 
-long_text : (text : List ℕ) → script_limit < length text → script_of text ≡ Err 0
+long_text : (text : List ℕ) → text_limit < length text → script_of text ≡ Err 0
 long_text text long =
-    let beyond : nat_le (length text) script_limit ≡ false = grind (arith, nat_tests) in
+    let beyond : nat_le (length text) text_limit ≡ false = grind (arith, nat_tests) in
     rw beyond refl
 
-pub script_long : (file : Option (List ℕ)) → IsSomeAnd file (λ text. script_limit < length text) → script_in file ≡ Err (BadScript 0)
+pub script_long : (file : Option (List ℕ)) → IsSomeAnd file (λ text. text_limit < length text) → script_in file ≡ Err (BadScript 0)
 script_long None long = absurd long
 script_long (Some text) long = script_is (Some text) text refl ∙ ap (or_bad BadScript) (long_text text long)
 
@@ -78,7 +79,7 @@ answers_is file text is = rw is refl
 long_answers : (text : List ℕ) → 1048576 < length text → answers_of text ≡ Err 0
 unfolding answers_of
 long_answers text long =
-    let beyond : nat_lt 1048576 (length text) ≡ true = grind (arith, nat_tests) in
+    let beyond : nat_le (length text) text_limit ≡ false = grind (arith, nat_tests) in
     rw beyond refl
 
 pub answers_long : (file : Option (List ℕ)) → IsSomeAnd file (λ text. 1048576 < length text) → answers_in file ≡ Err (BadAnswers 0)
@@ -94,7 +95,7 @@ unfolding config_in
 config_is file text is = rw is refl
 
 long_config : (text : List ℕ) → 1048576 < length text → config_of text ≡ Err 0
-unfolding config_of
+unfolding config_of document_in
 long_config text long =
     let beyond : nat_le (length text) 1048576 ≡ false = grind (arith, nat_tests) in
     rw beyond refl

@@ -4,4 +4,3 @@ pub mod EndsOfShow
 pub mod Inputs
 pub mod Refusals
 pub mod Spoken
-pub mod Texts

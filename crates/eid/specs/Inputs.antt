@@ -10,7 +10,7 @@ use Rattle.eid.specs.declared.exit.Exit.TheVariants.{Done, Usage, FileFault, NoM
 use Rattle.eid.specs.declared.load.Read.{Read}
 use Rattle.eid.specs.declared.load.Read.TheVariants as read
 use Rattle.eid.specs.Commands.{Command, Run, Replay, Make, Show}
-use Rattle.eid.specs.Configs.{config_of}
+use Rattle.eid_perso.specs.Reading.{config_of}
 use Rattle.eid.specs.Images.{record_of}
 
 -- what is read of an input, or the exit that refuses it: absent, or not of its form

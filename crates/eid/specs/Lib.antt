@@ -1,5 +1,4 @@
 pub mod Commands
-pub mod Configs
 pub mod Exits
 pub mod Images
 pub mod Inputs

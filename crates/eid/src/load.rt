@@ -7,7 +7,7 @@ ghost use Rattle.eid_script.specs.Scripts.{plain_line, script_of};
 ghost use Rattle.eid_copro.specs.Lines.{answers_of};
 ghost use Rattle.eid.specs.Images.{record_of};
 ghost use Rattle.eid_perso.specs.Config.{IsWhole, config_view};
-ghost use Rattle.eid.specs.Configs.{config_of};
+ghost use Rattle.eid_perso.specs.Reading.{config_of};
 ghost use Rattle.eid.specs.Inputs.{image_in, script_in, answers_in, config_in, or_bad, IsRead, IsRefused, IsBad};
 
 use crate::exit::Exit;

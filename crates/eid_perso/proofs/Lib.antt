@@ -1,3 +1,4 @@
 pub mod FileLines
 pub mod Images
 pub mod ReadFiles
+pub mod Documents

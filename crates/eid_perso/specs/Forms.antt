@@ -1,12 +1,14 @@
 -- The forms of values: what TOML data gives in a form, and nothing where the form refuses it. This project's own.
-use Rattle.std.specs.Prelude.{ℕ, ◌-◌, Bool, ◌&&◌, List, length, ℤ, pos, int_le, nat_abs, nat_le, map, Option, Some, None, ◌==◌, if◌then◌else◌, slice_index}
+use Rattle.std.specs.Prelude.{ℕ, ◌-◌, Bool, ◌&&◌, List, length, ℤ, pos, int_le, nat_abs, nat_le, map}
+use Rattle.std.specs.Prelude.{Option, Some, None, ◌==◌, if◌then◌else◌, slice_index}
+use Rattle.std.specs.Char.{is_ascii_digit}
 use Rattle.std.specs.List.{list_all}
 use Rattle.std.specs.Option.{option_and_then}
 use Rattle.std.specs.Result.{result_ok}
-use Rattle.hex.specs.Hex.{decode_of, decode_sized}
+use Rattle.hex.specs.Hex.{decode_sized}
 use Rattle.toml.specs.Data.{Data, as_integer, as_str}
 use Rattle.eid_bits.specs.Date.{is_between, is_date}
-use Rattle.eid_record.specs.Reading.{is_ascii_digit}
+use Rattle.eid_text.specs.Hexadecimal.{bytes_within}
 
 abbrev pub number_between : ℕ → ℕ → ℤ → Option ℕ
 number_between least most n = if int_le (pos least) n && int_le n (pos most) then Some (nat_abs n) else None
@@ -50,12 +52,6 @@ uncompressed bytes = if slice_index bytes 0 == 4 then Some bytes else None
 abbrev pub point : Data → Option (List ℕ)
 point value = option_and_then uncompressed (sized 65 value)
 
-abbrev pub short : List ℕ → Option (List ℕ)
-short bytes = if nat_le (length bytes) 2048 then Some bytes else None
-
-abbrev pub file_in : List ℕ → Option (List ℕ)
-file_in text = option_and_then short (result_ok (decode_of text))
-
 -- at most 2,048 bytes in hexadecimal
 abbrev pub file : Data → Option (List ℕ)
-file value = option_and_then file_in (as_str value)
+file value = option_and_then (bytes_within 2048) (as_str value)

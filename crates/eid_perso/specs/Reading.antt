@@ -1,12 +1,14 @@
--- What readers of a configuration answer.
-use Rattle.std.specs.Prelude.{◌≡◌, ℕ, ◌≤◌, ◌⊎◌, List, length, Some, Result, Ok, Err}
-use Rattle.std.specs.Str.{IsUtf8}
+-- What readers of configurations answer.
+use Rattle.std.specs.Prelude.{◌≡◌, ℕ, ◌&&◌, nat_le, List, length, Option, None, Result, Ok, Err, if◌then◌else◌}
+use Rattle.std.specs.Str.{is_utf8}
 use Rattle.toml.specs.Data.{Members}
 use Rattle.toml.specs.Parse.{parse_document}
+use Rattle.eid_record.specs.Reading.{◌>>=◌}
+use Rattle.eid_text.specs.Lines.{text_limit}
 use Rattle.eid_perso.specs.declared.config.ConfigError.{ConfigError}
 use Rattle.eid_perso.specs.declared.config.ConfigError.TheVariants.{Bad, NoMemory}
 use Rattle.eid_perso.specs.Config.{PlainConfig}
-use Rattle.eid_perso.specs.Keys.{config_in}
+use Rattle.eid_perso.specs.Keys.{config_in, or_refused}
 
 abbrev pub IsRefusedBy : {Y : Type 0} → Result Y ℕ → ConfigError → Type 0
 IsRefusedBy read (Bad key) = read ≡ Err key
@@ -17,20 +19,18 @@ abbrev pub Reads : {X Y : Type 0} → (X → Y) → Result X ConfigError → Res
 Reads view (Ok x) read = read ≡ Ok (view x)
 Reads view (Err e) read = IsRefusedBy read e
 
--- The text is the TOML document of this table, and not too long.
-pub record IsDocument (text : List ℕ) (m : Members) : Type 0 where
-  pub short : length text ≤ 1048576
-  pub utf8 : IsUtf8 text
-  pub table : parse_document text ≡ Some m
+-- the table that a text writes: a TOML document that is not too long
+abbrev pub table_of : List ℕ → Option Members
+table_of text = if nat_le (length text) text_limit && is_utf8 text then parse_document text else None
 
--- A text is read as what its table gives.
-abbrev pub IsReadAs : List ℕ → Result PlainConfig ℕ → Type 0
-IsReadAs text answer = (m : Members) × IsDocument text m × (config_in m ≡ answer)
+-- the table, or that key 0 is refused
+unfoldable pub document_in : List ℕ → Result Members ℕ
+document_in text = or_refused 0 (table_of text)
 
--- A text is refused by key 0 where it is no document, else by the key that its table names.
-abbrev pub IsRefused : List ℕ → ℕ → Type 0
-IsRefused text key = ((key ≡ 0) × ((m : Members) → IsDocument text m → ⊥)) ⊎ IsReadAs text (Err key)
+-- what the table of a text says, or the number of the first key that is refused, 0 where there is no table
+abbrev pub of_document : {Y : Type 0} → (Members → Result Y ℕ) → List ℕ → Result Y ℕ
+of_document says text = document_in text >>= says
 
-abbrev pub IsAnswerErr : List ℕ → ConfigError → Type 0
-IsAnswerErr text (Bad key) = IsRefused text key
-IsAnswerErr text NoMemory = Unit {0}
+-- the configuration that a text says
+unfoldable pub config_of : List ℕ → Result PlainConfig ℕ
+config_of text = of_document config_in text

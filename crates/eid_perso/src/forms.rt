@@ -1,16 +1,16 @@
 //! The forms of values.
-ghost use Rattle.std.specs.Prelude.{◌≡◌, ◌-◌, map, nat_le, IfOk, option_map};
+ghost use Rattle.std.specs.Prelude.{◌≡◌, ◌-◌, map, nat_le, IfOk, IsErr, IsSome, option_map};
 ghost use Rattle.std.specs.List.{list_all};
 ghost use Rattle.eid_bits.specs.Dates.{date_digits};
 ghost use Rattle.eid_bits.specs.Template.{template_bytes};
-ghost use Rattle.eid_record.specs.Reading.{is_ascii_digit};
 ghost use Rattle.toml.specs.View.{view};
-ghost use Rattle.eid_perso.specs.Forms.{number_between, whole, digits_in, digits, date_in, date, is_name, name_in, name, sized, point, file_in, file};
+ghost use Rattle.eid_perso.specs.Forms.{number_between, whole, digits_in, digits, date_in, date, is_name, name_in, name, sized, point, file};
 
 use arrayvec::ArrayVec;
 use eid_base::{NoMemory, Point};
 use eid_bits::{Date6, Template};
-use hex::{FromHex, FromHexError};
+use eid_text::{are_digits, decode_hex};
+use hex::FromHex;
 use std::alloc::Global;
 use toml::Value;
 
@@ -31,12 +31,6 @@ pub fn whole(value: &Value, least: u32, most: u32) -> Option<u32>
         Some(n) => number_between(least, most, n),
         None => None,
     }
-}
-
-fn are_digits(text: &[u8]) -> bool
-    ensures { result ≡ list_all is_ascii_digit text.now }
-{
-    text.iter().all(|byte| matches!(*byte, b'0'..=b'9'))
 }
 
 fn digits_in<const N: usize>(text: &[u8]) -> Option<[u8; N]>
@@ -158,24 +152,16 @@ pub fn point(value: &Value) -> Option<Point>
     }
 }
 
-/// The bytes of hexadecimal text, where they are at most 2,048.
-fn file_in(alloc: Global, text: &str) -> Result<Option<Vec<u8>>, NoMemory>
-    ensures { IfOk result (λ bytes. option_map (λ v. v.items) bytes ≡ file_in text.now) }
-{
-    match hex::decode(alloc, text) {
-        Ok(bytes) if bytes.len() <= 2048 => Ok(Some(bytes)),
-        Ok(_) => Ok(None),
-        Err(FromHexError::OutOfMemory) => Err(NoMemory),
-        Err(_) => Ok(None),
-    }
-}
+/// How many bytes the longest file has.
+const MAX_FILE: usize = 2048;
 
-/// At most 2,048 bytes in hexadecimal.
+/// At most 2,048 bytes in hexadecimal. Memory is wanting only for a value of this form.
 pub fn file(alloc: Global, value: &Value) -> Result<Option<Vec<u8>>, NoMemory>
-    ensures { IfOk result (λ bytes. option_map (λ v. v.items) bytes ≡ file (view value.now)) }
+    ensures found { IfOk result (λ bytes. option_map (λ v. v.items) bytes ≡ file (view value.now)) }
+    ensures no_memory { IsErr result → IsSome (file (view value.now)) }
 {
     match value.as_str() {
-        Some(text) => file_in(alloc, text),
+        Some(text) => decode_hex(alloc, text.as_bytes(), MAX_FILE),
         None => Ok(None),
     }
 }

@@ -1,9 +1,9 @@
 //! Reading a configuration.
-ghost use Rattle.std.specs.Prelude.{◌≡◌, Ok, IfOk, IfErr};
+ghost use Rattle.std.specs.Prelude.{◌≡◌, IfOk};
 ghost use Rattle.toml.specs.View.{table_view};
 ghost use Rattle.eid_perso.specs.Config.{IsWhole, config_view};
 ghost use Rattle.eid_perso.specs.Keys.{config_in};
-ghost use Rattle.eid_perso.specs.Reading.{Reads, IsReadAs, IsAnswerErr};
+ghost use Rattle.eid_perso.specs.Reading.{Reads, config_of, document_in};
 
 use crate::config::{Config, ConfigError};
 use crate::files::read_files;
@@ -52,16 +52,10 @@ fn config_of(alloc: Global, table: &Table) -> Result<Config, ConfigError>
     })
 }
 
-/// The configuration that a TOML text writes in one flat table; keys that no configuration has are passed over.
-/// Hexadecimal is read in both cases. The keys and their forms are this project's own.
-///
-/// # Errors
-/// `Bad` exactly where a key is absent though required, or refused, with the number of the first one, or 0 where the
-/// text is no TOML or has over 1,048,576 bytes. `NoMemory` where memory is refused.
-pub fn read_config(alloc: Global, text: &[u8]) -> Result<Config, ConfigError>
-    ensures read { IfOk result (λ c. IsReadAs text.now (Ok (config_view c))) }
-    ensures refused { IfErr result (IsAnswerErr text.now) }
-    ensures whole { IfOk result (λ c. IsWhole (config_view c)) }
+/// The table that a TOML text writes. Key 0 is refused where there is none.
+#[tactic(auto, using(crate::proofs::Documents::too_long, crate::proofs::Documents::no_text, crate::proofs::Documents::no_table, crate::proofs::Documents::document))]
+fn read_document(alloc: Global, text: &[u8]) -> Result<Table, ConfigError>
+    ensures { Reads table_view result (document_in text.now) }
 {
     if text.len() > MOST {
         return Err(ConfigError::Bad { key: 0 });
@@ -70,8 +64,23 @@ pub fn read_config(alloc: Global, text: &[u8]) -> Result<Config, ConfigError>
         return Err(ConfigError::Bad { key: 0 });
     };
     match toml::table_from_str(alloc, document) {
-        Ok(table) => config_of(alloc, &table),
+        Ok(table) => Ok(table),
         Err(error) if error.is_memory() => Err(ConfigError::NoMemory),
         Err(_) => Err(ConfigError::Bad { key: 0 }),
     }
+}
+
+/// The configuration that a TOML text writes in one flat table; keys that no configuration has are passed over.
+/// Hexadecimal is read in both cases. The keys and their forms are this project's own.
+///
+/// # Errors
+/// `Bad` exactly where a key is absent though required, or refused, with the number of the first one, or 0 where the
+/// text is no TOML or has over 1,048,576 bytes. `NoMemory` where memory is refused.
+#[tactic(auto, unfolding(crate::specs::Reading::config_of))]
+pub fn read_config(alloc: Global, text: &[u8]) -> Result<Config, ConfigError>
+    ensures reads { Reads config_view result (config_of text.now) }
+    ensures whole { IfOk result (λ c. IsWhole (config_view c)) }
+{
+    let table = read_document(alloc, text)?;
+    config_of(alloc, &table)
 }
