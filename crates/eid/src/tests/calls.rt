@@ -15,9 +15,6 @@ const REFUSED: &str =
 const SILENT: &str =
     "apdu 00a4040c09e80704007f00070302\n plain none\n finished 0\n rule 0\n answer none\n sent none\n";
 
-const FIRST_QUESTION: &str =
-    "on 0\napdu 0022c1a40f800a04007f00070202040202830102\n plain 00 22 c1a4 800a04007f00070202040202830102 0\n finished 0\n rule 0\n answer 9000\n sent 9000\napdu 10860000027c0000\n plain 10 86 0000 7c00 256\n ask nonce = 374708fff7719dd5979ec875d56cd228\n finished 0\n rule 0\n answer 7c128010dd19df18f5215646bdf27199eee4adf39000\n sent 7c128010dd19df18f5215646bdf27199eee4adf39000\n";
-
 /// The texts that lie in the folder of a call, by name. Beside them lie `image`, its front `short` of 65,535 bytes,
 /// the configuration `chip` of another image, `long`, which is 1,048,577 empty lines, and `text`, which a call brings.
 const TEXTS: &[(&str, &str)] = &[
@@ -25,10 +22,6 @@ const TEXTS: &[(&str, &str)] = &[
     ("script", "on\noff\n"),
     ("group", "on\napdu 00B0840000\n"),
     ("silent", "apdu 00A4040C09E80704007F00070302"),
-    (
-        "first",
-        "on\napdu 0022C1A40F800A04007F00070202040202830102\napdu 10860000027C0000\n",
-    ),
     ("bad", "on\nof\n"),
     ("answers", "fault"),
     ("no_pin", "can = '654321'\npuk = '0123456789'\n"),
@@ -42,7 +35,6 @@ const CALLS: &[(&str, &str, u8, u32, &str)] = &[
     ("an empty script prints nothing", "run image empty 0", 0, 0, ""),
     ("a data group is refused before PACE", "run image group 0", 0, 0, REFUSED),
     ("a chip without power says nothing", "run image silent 0", 0, 0, SILENT),
-    ("the first question is answered by random block 0", "run image first 0", 0, 0, FIRST_QUESTION),
     ("the greatest start", "run image script 18446744073709551615", 0, 0, "on 0\noff\n"),
     ("`replay` runs with answers", "replay image script answers", 0, 0, "on 0\noff\n"),
     ("`make` makes an image", "make chip new", 0, 0, ""),
@@ -82,7 +74,6 @@ const FAULTS: &[(&str, &str, u32, u32, u8, &str)] = &[
     ("`make` has two calls of the folder and none of the sink", "make chip new", 3, 1, 0, ""),
     ("the image to be shown is not read", "show image", 1, 0, 2, ""),
     ("the text is not printed", "show image", 0, 1, 7, ""),
-    ("`show` has one call of the folder and one of the sink", "show image", 2, 2, 0, SHOWN),
 ];
 
 /// Texts that are refused: what each shows, the status, the text, and the line that is named.

@@ -1,4 +1,5 @@
-//! Sessions of worked examples, with their traces. A separate simulator in Python computed the traces.
+//! Sessions of worked examples: the rules and the answers of their commands. A separate simulator in Python computed
+//! them.
 use super::{ACCESS, folder_of, holds, image, joined, push_file, words};
 use crate::program::program;
 use eid_base::MemorySink;
@@ -10,41 +11,27 @@ const RUN: &str = "run image script 0";
 
 const REPLAY: &str = "replay image script answers";
 
-// PACE with the CAN, from its selection to the tokens, by the model coprocessor from 0, and the trace of each step.
+/// PACE with the CAN, from its selection to the tokens, by the model coprocessor from 0.
 #[rattlefmt::skip]
-const SELECT_CAN: &str = "apdu 0022c1a424800a04007f000702020402028301027f4c12060904007f00070301020253050000009807\n";
+const STEPS: [&str; 5] = [
+    "apdu 0022c1a424800a04007f000702020402028301027f4c12060904007f00070301020253050000009807\n",
+    "apdu 10860000027c0000\n",
+    "apdu 10860000457c43814104000000000000000000000000000000000000000000000000e3e10338a6bccd8b000000000000000000000000000000000000000000000000000000000000000000\n",
+    "apdu 10860000457c438341040000000000000000000000000000000000000000000000004743b10dccc908a7000000000000000000000000000000000000000000000000000000000000000000\n",
+    "apdu 008600000c7c0a8508b5507fac391ab3fd00\n",
+];
 
+/// The lines of the trace with the rule and the answer of each step.
 #[rattlefmt::skip]
-const NONCE: &str = "apdu 10860000027c0000\n";
+const STEPS_TOLD: [&str; 5] = [
+    " rule 0\n answer 9000\n",
+    " rule 0\n answer 7c128010dd19df18f5215646bdf27199eee4adf39000\n",
+    " rule 0\n answer 7c438241040000000000000000000000000000000000000000000000006d300153a979d16700000000000000000000000000000000000000000000000000000000000000009000\n",
+    " rule 0\n answer 7c43844104000000000000000000000000000000000000000000000000ef5a4277298455b900000000000000000000000000000000000000000000000000000000000000009000\n",
+    " rule 0\n answer 7c1986081cd74679bd54f330870d444543564341415430303030319000\n",
+];
 
-#[rattlefmt::skip]
-const MAP: &str = "apdu 10860000457c43814104000000000000000000000000000000000000000000000000e3e10338a6bccd8b000000000000000000000000000000000000000000000000000000000000000000\n";
-
-#[rattlefmt::skip]
-const AGREE: &str = "apdu 10860000457c438341040000000000000000000000000000000000000000000000004743b10dccc908a7000000000000000000000000000000000000000000000000000000000000000000\n";
-
-#[rattlefmt::skip]
-const TOKEN: &str = "apdu 008600000c7c0a8508b5507fac391ab3fd00\n";
-
-#[rattlefmt::skip]
-const ON_TOLD: &str = "on 0\n";
-
-#[rattlefmt::skip]
-const SELECT_CAN_TOLD: &str = "apdu 0022c1a424800a04007f000702020402028301027f4c12060904007f00070301020253050000009807\n plain 00 22 c1a4 800a04007f000702020402028301027f4c12060904007f00070301020253050000009807 0\n finished 0\n rule 0\n answer 9000\n sent 9000\n";
-
-#[rattlefmt::skip]
-const NONCE_TOLD: &str = "apdu 10860000027c0000\n plain 10 86 0000 7c00 256\n ask nonce = 374708fff7719dd5979ec875d56cd228\n finished 0\n rule 0\n answer 7c128010dd19df18f5215646bdf27199eee4adf39000\n sent 7c128010dd19df18f5215646bdf27199eee4adf39000\n";
-
-#[rattlefmt::skip]
-const MAP_TOLD: &str = "apdu 10860000457c43814104000000000000000000000000000000000000000000000000e3e10338a6bccd8b000000000000000000000000000000000000000000000000000000000000000000\n plain 10 86 0000 7c43814104000000000000000000000000000000000000000000000000e3e10338a6bccd8b0000000000000000000000000000000000000000000000000000000000000000 256\n ask pair - = 0000000000000000000000000000000000000000000000007c3ccd10bb7ec37b 040000000000000000000000000000000000000000000000006d300153a979d1670000000000000000000000000000000000000000000000000000000000000000\n ask map 374708fff7719dd5979ec875d56cd228 0000000000000000000000000000000000000000000000007c3ccd10bb7ec37b 04000000000000000000000000000000000000000000000000e3e10338a6bccd8b0000000000000000000000000000000000000000000000000000000000000000 = 04000000000000000000000000000000000000000000000000ed51c048cbd1bd910000000000000000000000000000000000000000000000000000000000000000\n finished 0\n rule 0\n answer 7c438241040000000000000000000000000000000000000000000000006d300153a979d16700000000000000000000000000000000000000000000000000000000000000009000\n sent 7c438241040000000000000000000000000000000000000000000000006d300153a979d16700000000000000000000000000000000000000000000000000000000000000009000\n";
-
-#[rattlefmt::skip]
-const AGREE_TOLD: &str = "apdu 10860000457c438341040000000000000000000000000000000000000000000000004743b10dccc908a7000000000000000000000000000000000000000000000000000000000000000000\n plain 10 86 0000 7c438341040000000000000000000000000000000000000000000000004743b10dccc908a70000000000000000000000000000000000000000000000000000000000000000 256\n ask pair 04000000000000000000000000000000000000000000000000ed51c048cbd1bd910000000000000000000000000000000000000000000000000000000000000000 = 000000000000000000000000000000000000000000000000692865c9a376a1a9 04000000000000000000000000000000000000000000000000ef5a4277298455b90000000000000000000000000000000000000000000000000000000000000000\n ask agree 000000000000000000000000000000000000000000000000692865c9a376a1a9 040000000000000000000000000000000000000000000000004743b10dccc908a70000000000000000000000000000000000000000000000000000000000000000 = 000000000000000000000000000000000000000000000000f723a331f121bd3f\n finished 0\n rule 0\n answer 7c43844104000000000000000000000000000000000000000000000000ef5a4277298455b900000000000000000000000000000000000000000000000000000000000000009000\n sent 7c43844104000000000000000000000000000000000000000000000000ef5a4277298455b900000000000000000000000000000000000000000000000000000000000000009000\n";
-
-#[rattlefmt::skip]
-const TOKEN_TOLD: &str = "apdu 008600000c7c0a8508b5507fac391ab3fd00\n plain 00 86 0000 7c0a8508b5507fac391ab3fd 256\n finished 0\n rule 0\n answer 7c1986081cd74679bd54f330870d444543564341415430303030319000\n sent 7c1986081cd74679bd54f330870d444543564341415430303030319000\n";
-
-// Answers to its questions, and the second pair with the point that the terminal sends.
+// Answers to the questions of the steps, and the second pair with the point that the terminal sends.
 #[rattlefmt::skip]
 const NONCE_ANSWER: &str = "nonce 374708fff7719dd5979ec875d56cd228\n";
 
@@ -60,53 +47,129 @@ const PAIR_OF_THE_TERMINAL: &str = "pair 000000000000000000000000000000000000000
 #[rattlefmt::skip]
 const ACCESS_OF_100_BYTES: &str = "card_access = '31620000000000000000000000000000000000000000000000000000000000000000000000000000000000000000000000000000000000000000000000000000000000000000000000000000000000000000000000000000000000000000000000000000'\n";
 
-/// A session: what it shows, the line of the configuration with EF.CardAccess, the words, and in pieces the answers of
-/// a replay, the script, and the trace.
-type Session = (
-    &'static str,
-    &'static str,
-    &'static str,
-    &'static [&'static str],
-    &'static [&'static str],
-    &'static [&'static str],
-);
+/// What is sent behind a power on, and what it comes to.
+struct Session {
+    /// What the row shows.
+    shows: &'static str,
+    /// The line of the configuration with EF.CardAccess.
+    access: &'static str,
+    /// The words.
+    said: &'static str,
+    /// The answers of a replay.
+    answers: &'static [&'static str],
+    /// How many steps of PACE are sent first.
+    sent: usize,
+    /// How many of these are carried out as in `STEPS_TOLD`.
+    carried_out: usize,
+    /// The lines of the script behind these steps.
+    more: &'static str,
+    /// The lines of the trace with the rules and the answers of the other commands.
+    told: &'static str,
+}
 
 /// The sessions, by what they show.
 #[rattlefmt::skip]
-const SESSIONS: &[Session] = &[
-    ("after power on SELECT of the application is carried out", ACCESS, RUN, &[], &["on\n", "apdu 00a4040c09e80704007f00070302\n"], &[ON_TOLD, "apdu 00a4040c09e80704007f00070302\n plain 00 a4 040c e80704007f00070302 0\n finished 0\n rule 0\n answer 9000\n sent 9000\n"]),
-    ("a READ BINARY gives what is left of 100 bytes", ACCESS_OF_100_BYTES, RUN, &[], &["on\n", "apdu 00b09c6400\n", "apdu 00b09c6500\n", "apdu 00b09c00c8\n"], &[ON_TOLD, "apdu 00b09c6400\n plain 00 b0 9c64 - 256\n finished 0\n rule 0\n answer 9000\n sent 9000\n", "apdu 00b09c6500\n plain 00 b0 9c65 - 256\n finished 0\n rule 38\n answer 6b00\n sent 6b00\n", "apdu 00b09c00c8\n plain 00 b0 9c00 - 200\n finished 0\n rule 0\n answer 316200000000000000000000000000000000000000000000000000000000000000000000000000000000000000000000000000000000000000000000000000000000000000000000000000000000000000000000000000000000000000000000000000006282\n sent 316200000000000000000000000000000000000000000000000000000000000000000000000000000000000000000000000000000000000000000000000000000000000000000000000000000000000000000000000000000000000000000000000000006282\n"]),
-    ("each refusal has its rule and status", ACCESS, RUN, &[], &["on\n", "apdu 00b0\n", "apdu 00ff0000\n", "apdu 00a4000000\n", "apdu 00a4040c00\n", "apdu 00a4040c02a000\n", "apdu 00b0000000\n"], &[ON_TOLD, "apdu 00b0\n plain none\n finished 0\n rule 1\n answer 6700\n sent 6700\n", "apdu 00ff0000\n plain 00 ff 0000 - 0\n finished 0\n rule 5\n answer 6d00\n sent 6d00\n", "apdu 00a4000000\n plain 00 a4 0000 - 256\n finished 0\n rule 6\n answer 6a86\n sent 6a86\n", "apdu 00a4040c00\n plain 00 a4 040c - 256\n finished 0\n rule 10\n answer 6a80\n sent 6a80\n", "apdu 00a4040c02a000\n plain 00 a4 040c a000 0\n finished 0\n rule 13\n answer 6a82\n sent 6a82\n", "apdu 00b0000000\n plain 00 b0 0000 - 256\n finished 0\n rule 12\n answer 6986\n sent 6986\n"]),
-    ("PACE with the CAN opens a channel, in which a command counts once", ACCESS, RUN, &[], &["on\n", SELECT_CAN, NONCE, MAP, AGREE, TOKEN, "apdu 0cb09d000d9701008e08b31aafca60fc90af00\n", "apdu 0cb084000d9701008e0818b9dc8abcd582de00\n", "apdu 0cb084000d9701008e0818b9dc8abcd582de00\n", "apdu 0cb09d000d9701008e08ed9c031c3d8e290200\n"], &[ON_TOLD, SELECT_CAN_TOLD, NONCE_TOLD, MAP_TOLD, AGREE_TOLD, TOKEN_TOLD, "apdu 0cb09d000d9701008e08b31aafca60fc90af00\n plain 00 b0 9d00 - 256\n finished 0\n rule 0\n answer 30009000\n sent 87110192ff27d0d4186ce3ac2fe13745c89e8c990290008e082bb58fdaedff79b39000\n", "apdu 0cb084000d9701008e0818b9dc8abcd582de00\n plain 00 b0 8400 - 256\n finished 0\n rule 26\n answer 6982\n sent 990269828e0841467b601b9038456982\n", "apdu 0cb084000d9701008e0818b9dc8abcd582de00\n plain none\n finished 0\n rule 3\n answer 6988\n sent 6988\n", "apdu 0cb09d000d9701008e08ed9c031c3d8e290200\n plain 0c b0 9d00 9701008e08ed9c031c3d8e2902 256\n finished 0\n rule 4\n answer 6e00\n sent 6e00\n"]),
-    ("a missing answer is a fault, and the next step is none", ACCESS, REPLAY, &[NONCE_ANSWER], &["on\n", SELECT_CAN, NONCE, MAP, MAP], &[ON_TOLD, SELECT_CAN_TOLD, NONCE_TOLD, "apdu 10860000457c43814104000000000000000000000000000000000000000000000000e3e10338a6bccd8b000000000000000000000000000000000000000000000000000000000000000000\n plain 10 86 0000 7c43814104000000000000000000000000000000000000000000000000e3e10338a6bccd8b0000000000000000000000000000000000000000000000000000000000000000 256\n ask pair - = fault\n finished 0\n rule 50\n answer 6f00\n sent 6f00\n", "apdu 10860000457c43814104000000000000000000000000000000000000000000000000e3e10338a6bccd8b000000000000000000000000000000000000000000000000000000000000000000\n plain 10 86 0000 7c43814104000000000000000000000000000000000000000000000000e3e10338a6bccd8b0000000000000000000000000000000000000000000000000000000000000000 256\n finished 0\n rule 9\n answer 6985\n sent 6985\n"]),
-    ("the chip's point is not the terminal's", ACCESS, REPLAY, &[NONCE_ANSWER, PAIR_ANSWER, MAP_ANSWER, PAIR_OF_THE_TERMINAL], &["on\n", SELECT_CAN, NONCE, MAP, AGREE], &[ON_TOLD, SELECT_CAN_TOLD, NONCE_TOLD, MAP_TOLD, "apdu 10860000457c438341040000000000000000000000000000000000000000000000004743b10dccc908a7000000000000000000000000000000000000000000000000000000000000000000\n plain 10 86 0000 7c438341040000000000000000000000000000000000000000000000004743b10dccc908a70000000000000000000000000000000000000000000000000000000000000000 256\n ask pair 04000000000000000000000000000000000000000000000000ed51c048cbd1bd910000000000000000000000000000000000000000000000000000000000000000 = 000000000000000000000000000000000000000000000000692865c9a376a1a9 040000000000000000000000000000000000000000000000004743b10dccc908a70000000000000000000000000000000000000000000000000000000000000000\n finished 0\n rule 51\n answer 6300\n sent 6300\n"]),
-    ("a nonce that maps to no point is a wrong body", ACCESS, REPLAY, &[NONCE_ANSWER, PAIR_ANSWER, "map none\n"], &["on\n", SELECT_CAN, NONCE, MAP], &[ON_TOLD, SELECT_CAN_TOLD, NONCE_TOLD, "apdu 10860000457c43814104000000000000000000000000000000000000000000000000e3e10338a6bccd8b000000000000000000000000000000000000000000000000000000000000000000\n plain 10 86 0000 7c43814104000000000000000000000000000000000000000000000000e3e10338a6bccd8b0000000000000000000000000000000000000000000000000000000000000000 256\n ask pair - = 0000000000000000000000000000000000000000000000007c3ccd10bb7ec37b 040000000000000000000000000000000000000000000000006d300153a979d1670000000000000000000000000000000000000000000000000000000000000000\n ask map 374708fff7719dd5979ec875d56cd228 0000000000000000000000000000000000000000000000007c3ccd10bb7ec37b 04000000000000000000000000000000000000000000000000e3e10338a6bccd8b0000000000000000000000000000000000000000000000000000000000000000 = none\n finished 0\n rule 52\n answer 6a80\n sent 6a80\n"]),
-    ("the PIN cannot be chosen yet", ACCESS, RUN, &[], &["on\n", "apdu 0022c1a40f800a04007f00070202040202830103\n"], &[ON_TOLD, "apdu 0022c1a40f800a04007f00070202040202830103\n plain 00 22 c1a4 800a04007f00070202040202830103 0\n finished 0\n rule 11\n answer 6a88\n sent 6a88\n"]),
+const SESSIONS: [Session; 8] = [
+    Session {
+        shows: "after power on SELECT of the application is carried out", access: ACCESS, said: RUN, answers: &[],
+        sent: 0, carried_out: 0,
+        more: "apdu 00A4040C09E80704007F00070302\n",
+        told: " rule 0\n answer 9000\n",
+    },
+    Session {
+        shows: "a READ BINARY gives what is left of 100 bytes", access: ACCESS_OF_100_BYTES, said: RUN, answers: &[],
+        sent: 0, carried_out: 0,
+        more: "apdu 00B09C6400\napdu 00B09C6500\napdu 00B09C00C8\n",
+        told: " rule 0\n answer 9000\n rule 38\n answer 6b00\n rule 0\n answer 316200000000000000000000000000000000000000000000000000000000000000000000000000000000000000000000000000000000000000000000000000000000000000000000000000000000000000000000000000000000000000000000000000006282\n",
+    },
+    Session {
+        shows: "each refusal has its rule and status", access: ACCESS, said: RUN, answers: &[],
+        sent: 0, carried_out: 0,
+        more: "apdu 00B0\napdu 00FF0000\napdu 00A4000000\napdu 00A4040C00\napdu 00A4040C02A000\napdu 00B0000000\n",
+        told: " rule 1\n answer 6700\n rule 5\n answer 6d00\n rule 6\n answer 6a86\n rule 10\n answer 6a80\n rule 13\n answer 6a82\n rule 12\n answer 6986\n",
+    },
+    Session {
+        shows: "PACE with the CAN opens a channel, in which a command counts once", access: ACCESS, said: RUN, answers: &[],
+        sent: 5, carried_out: 5,
+        more: "apdu 0cb09d000d9701008e08b31aafca60fc90af00\napdu 0cb084000d9701008e0818b9dc8abcd582de00\napdu 0cb084000d9701008e0818b9dc8abcd582de00\napdu 0cb09d000d9701008e08ed9c031c3d8e290200\n",
+        told: " rule 0\n answer 30009000\n rule 26\n answer 6982\n rule 3\n answer 6988\n rule 4\n answer 6e00\n",
+    },
+    Session {
+        shows: "a missing answer is a fault, and the next step is none", access: ACCESS, said: REPLAY, answers: &[NONCE_ANSWER],
+        sent: 3, carried_out: 2,
+        more: "apdu 10860000457c43814104000000000000000000000000000000000000000000000000e3e10338a6bccd8b000000000000000000000000000000000000000000000000000000000000000000\n",
+        told: " rule 50\n answer 6f00\n rule 9\n answer 6985\n",
+    },
+    Session {
+        shows: "the chip's point is not the terminal's", access: ACCESS, said: REPLAY, answers: &[NONCE_ANSWER, PAIR_ANSWER, MAP_ANSWER, PAIR_OF_THE_TERMINAL],
+        sent: 4, carried_out: 3,
+        more: "",
+        told: " rule 51\n answer 6300\n",
+    },
+    Session {
+        shows: "a nonce that maps to no point is a wrong body", access: ACCESS, said: REPLAY, answers: &[NONCE_ANSWER, PAIR_ANSWER, "map none\n"],
+        sent: 3, carried_out: 2,
+        more: "",
+        told: " rule 52\n answer 6a80\n",
+    },
+    Session {
+        shows: "the PIN cannot be chosen yet", access: ACCESS, said: RUN, answers: &[],
+        sent: 0, carried_out: 0,
+        more: "apdu 0022C1A40F800A04007F00070202040202830103\n",
+        told: " rule 11\n answer 6a88\n",
+    },
 ];
 
-/// Whether the session has this trace, and leaves the image.
+/// The lines of a trace that have a rule or an answer.
+fn rules_and_answers(rt: &HostRuntime, trace: &[u8]) -> Result<Vec<u8>, AllocError> {
+    let mut told = Vec::new(rt.alloc());
+    for line in trace.split(|c| *c == b'\n') {
+        if line.starts_with(b" rule ") || line.starts_with(b" answer ") {
+            told.extend_from_slice(line)?;
+            told.push(b'\n')?;
+        }
+    }
+    Ok(told)
+}
+
+/// The first of these pieces, and a last one.
+fn front(
+    rt: &HostRuntime,
+    pieces: &[&str],
+    count: usize,
+    last: &str,
+) -> Result<String, AllocError> {
+    let mut text = joined(rt, &pieces[..pieces.len().min(count)])?;
+    text.push_str(last)?;
+    Ok(text)
+}
+
+/// Whether the commands have these rules and answers, and the image is left.
 fn is_so(rt: &HostRuntime, session: &Session) -> Result<bool, AllocError> {
-    let (_, access, said, answers, script, told) = session;
-    let cells = image(rt, access)?;
+    let cells = image(rt, session.access)?;
+    let sent = front(rt, &STEPS, session.sent, session.more)?;
+    let script = joined(rt, &["on\n", sent.as_str()])?;
+    let answers = joined(rt, session.answers)?;
+    let told = front(rt, &STEPS_TOLD, session.carried_out, session.told)?;
     let mut files = Vec::new(rt.alloc());
     push_file(rt, &mut files, "image", cells.as_slice())?;
-    push_file(rt, &mut files, "script", joined(rt, script)?.as_bytes())?;
-    push_file(rt, &mut files, "answers", joined(rt, answers)?.as_bytes())?;
+    push_file(rt, &mut files, "script", script.as_bytes())?;
+    push_file(rt, &mut files, "answers", answers.as_bytes())?;
     let mut folder = folder_of(rt, files, 0)?;
     let mut out = MemorySink::new(rt.alloc(), Vec::new(rt.alloc()));
-    let spoken = words(rt, said)?;
+    let spoken = words(rt, session.said)?;
     let exit = program(rt.alloc(), spoken.as_slice(), &mut folder, &mut out);
     Ok(
         exit.status() == 0
-            && out.bytes() == joined(rt, told)?.as_bytes()
+            && rules_and_answers(rt, out.bytes())?.as_slice() == told.as_bytes()
             && holds(&folder, "image", cells.as_slice()),
     )
 }
 
 #[test]
-fn each_session_has_its_trace(rt: HostRuntime) -> Result<(), Fail> {
-    for session in SESSIONS {
-        assert!(rt; is_so(&rt, session)?, "{}", session.0);
+fn each_command_has_its_rule_and_answer(rt: HostRuntime) -> Result<(), Fail> {
+    for session in &SESSIONS {
+        assert!(rt; is_so(&rt, session)?, "{}", session.shows);
     }
     Ok(())
 }
