@@ -39,8 +39,11 @@ pub enum Question {
 /// What a coprocessor can answer.
 #[derive(Clone, Copy)]
 pub enum Answer {
+    /// A random nonce.
     Nonce([u8; 16]),
+    /// A random challenge.
     Challenge([u8; 8]),
+    /// A random secret and its public point.
     Pair { secret: Secret, public: Point },
     /// The base that a mapping gave.
     Mapped(Point),
@@ -48,7 +51,9 @@ pub enum Answer {
     Shared([u8; 32]),
     /// A mapping or an agreement gave no point.
     NoPoint,
+    /// Whether the signature is one of the digest by the key.
     Verdict(bool),
+    /// The signature of the digest.
     Signed(Signature),
     /// The coprocessor failed.
     Fault,

@@ -7,17 +7,17 @@ ghost use Rattle.eid_copro.specs.Told.{KeepsTo};
 use crate::ask::{Ask, Question};
 use eid_base::{NoMemory, Point, Secret, Signature};
 
-/// The coprocessor failed, and its count of faults rose.
+/// The coprocessor failed: it is broken, or has no answer that fits the question. Its count of faults rose.
 #[derive(Clone, Copy, Debug)]
 pub struct CoproFault;
 
 /// What answers questions and keeps a log of them. A question takes no memory: its place in the log
-/// was made before by `make_room`.
+/// was made before by `make_room`. Each question may be answered by `CoproFault`; it is then logged with a fault.
 pub trait Coprocessor {
     // What it shows to contracts.
     ghost seen: { Self → CoproSeen };
 
-    /// Makes room for that many more questions.
+    /// Makes room for that many more questions. `NoMemory` comes where memory for them is refused.
     fn make_room(&mut self, asks: usize) -> Result<(), NoMemory>
         ensures room { OnOk result (asks ≤ (seen self.new).spare) }
         ensures log { (seen self.new).log ≡ (seen self.old).log }
@@ -28,12 +28,12 @@ pub trait Coprocessor {
     fn log(&self) -> &[Ask]
         ensures { result.now ≡ (seen self.now).log };
 
-    /// Random bytes.
+    /// A random nonce of 16 bytes.
     fn nonce(&mut self) -> Result<[u8; 16], CoproFault>
         requires { 1 ≤ (seen self.old).spare }
         ensures { Asked (seen self.old) (seen self.new) Question.Nonce (nonce_answer result) };
 
-    /// Random bytes.
+    /// A random challenge of 8 bytes.
     fn challenge(&mut self) -> Result<[u8; 8], CoproFault>
         requires { 1 ≤ (seen self.old).spare }
         ensures { Asked (seen self.old) (seen self.new) Question.Challenge (challenge_answer result) };
@@ -43,7 +43,7 @@ pub trait Coprocessor {
         requires { 1 ≤ (seen self.old).spare }
         ensures { Asked (seen self.old) (seen self.new) (Question.Pair (option_copied base.entry)) (pair_answer result) };
 
-    /// The base of PACE's generic mapping; none where that is no point.
+    /// The base of PACE's generic mapping (BSI TR-03110-3); none where that is no point.
     fn map(
         &mut self,
         nonce: &[u8; 16],

@@ -16,6 +16,7 @@ use std::alloc::Global;
 pub enum AnswersError {
     /// The number of the first line that is none; 0 where the text is over 1,048,576 bytes.
     Bad { line: u32 },
+    /// Memory was asked for and refused.
     NoMemory,
 }
 

@@ -20,7 +20,9 @@ pub struct Agreed {
 /// What a PACE that succeeded leaves.
 #[derive(Drop)]
 pub struct Done {
+    /// The protocol that was carried out.
     pub protocol: Protocol,
+    /// The password that opened it.
     pub password: Password,
     /// The template that the holder granted, if the selection had one.
     pub template: Option<Template>,

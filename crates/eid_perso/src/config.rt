@@ -6,6 +6,7 @@ use eid_record::Record;
 pub struct Config {
     /// The layout of the image, which is 1.
     pub layout: u8,
+    /// The record that the chip keeps at first.
     pub kept: Record,
     /// The bytes of the files that are there, in the order of the files' numbers.
     pub files: Vec<u8>,

@@ -3,6 +3,7 @@
 
 mod config;
 mod files;
+mod form;
 mod forms;
 mod image;
 mod keys;

@@ -7,7 +7,8 @@ ghost use Rattle.eid_perso.specs.Reading.{Reads, config_of, document_in};
 
 use crate::config::{Config, ConfigError};
 use crate::files::read_files;
-use crate::keys::{counters, current, date, passwords, previous, secrets, start};
+use crate::form::required;
+use crate::keys::{DATE, counters, current, passwords, previous, secrets, start};
 use eid_record::Record;
 use std::alloc::Global;
 use toml::Table;
@@ -24,7 +25,7 @@ fn config_of(alloc: Global, table: &Table) -> Result<Config, ConfigError>
     let (layout, number) = start(table)?;
     let (pin, can, puk) = passwords(table)?;
     let (tries, unblocks, active) = counters(table)?;
-    let date = date(table, 9, "date")?;
+    let date = required(table, &DATE)?;
     let current = current(table)?;
     let previous = previous(table)?;
     let (ca_secret, ri_secret) = secrets(table)?;
