@@ -25,10 +25,11 @@ use Rattle.eid.specs.declared.exit.Exit.{Exit}
 use Rattle.eid.specs.declared.exit.Exit.TheVariants.{Done, Usage, FileFault, NoMemory, BadImage, BadScript, BadConfig, SinkFault, BadAnswers}
 use Rattle.eid.specs.Commands.{Command, Run, Replay}
 use Rattle.eid.specs.Exits.{exit_broken, exit_not_stored}
+use Rattle.eid.specs.Images.{record_of}
 use Rattle.eid.specs.Inputs.{image_in, script_in, answers_in, unless_refused, expected, IsRefused}
 use Rattle.eid.specs.Run.{Setup, IsGiven, resting, RanWhole, RunFinished, RunBrokeOff, RunNotStored, HasSource, IsEndOfRun}
 use Rattle.eid.specs.Works.{Finished, BrokeOff, NotStored, Meets}
-use Rattle.eid.proofs.Inputs.{image_of_cells, record_long, some_of}
+use Rattle.eid.proofs.Inputs.{image_of_cells, record_of_cells, record_long, some_of}
 use Rattle.eid.proofs.Refusals.{rose_later, same_twice, others_after, refused, refused_later}
 
 -- The command reads an image and then a script, and what it ends in where these are good.
@@ -59,6 +60,7 @@ image_refused c image script_name old new sink rest e reads same refusal = refus
 -- an image that was read: cells that stand for a record
 pub record Opened (image : List ℕ) (old middle : FolderSeen) (opening : FullRecord) (cells : List ℕ) : Type 0 where
   pub is_record : stands cells ≡ Some opening
+  pub is_image : record_of cells ≡ Some opening
   pub stood : IsTrue old.tells → image_in (old.file image) ≡ Ok opening
   pub held : IsTrue old.tells → old.file image ≡ Some cells
   pub same : SameFiles old middle
@@ -70,6 +72,7 @@ opened image old middle cells right held same later =
       found.0,
       record {
         is_record = found.1;
+        is_image = record_of_cells cells found.0 right.0 found.1;
         stood = λ told. ap image_in (held told) ∙ image_of_cells cells found.0 right.0 found.1;
         held = held;
         same = same;
@@ -81,6 +84,7 @@ opened image old middle cells right held same later =
 pub read_after : (image : List ℕ) (old middle new : FolderSeen) (opening : FullRecord) (cells : List ℕ) → Opened image old middle opening cells → SameFiles middle new → middle.faults ≤ new.faults → Opened image old new opening cells
 read_after image old middle new opening cells o same later = record {
   is_record = o.is_record;
+  is_image = o.is_image;
   stood = o.stood;
   held = o.held;
   same = same_twice old middle new o.same same;

@@ -90,7 +90,8 @@ OfRun image script_name start old End = (s : Setup) × IsGiven image script_name
 -- a run came to such an end, and the answers are those of a file
 abbrev pub OfReplay : (image script_name answers_name : List ℕ) → FolderSeen → (Source → Setup → Type 0) → Type 0
 OfReplay image script_name answers_name old End =
-    (s : Setup) × IsGiven image script_name old s × ((answers : List Answer) × (IsTrue old.tells → answers_in (old.file answers_name) ≡ Ok answers) × End (script_answer answers) s)
+    (s : Setup) × IsGiven image script_name old s
+    × ((answers : List Answer) × (IsTrue old.tells → answers_in (old.file answers_name) ≡ Ok answers) × End (script_answer answers) s)
 
 -- a coprocessor that tells this has its answers from the source
 abbrev pub HasSource : Told → Source → Type 0

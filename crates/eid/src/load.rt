@@ -126,7 +126,8 @@ fn script_of_text(alloc: Global, text: &[u8]) -> Result<Vec<Line>, Exit>
 
 /// Reads a script.
 pub fn load_script<F: Folder>(alloc: Global, folder: &mut F, name: &str) -> Result<Vec<Line>, Exit>
-    ensures lines { IfOk result (λ lines. IsTrue (F.seen folder.old).tells → script_in ((F.seen folder.old).file name.now) ≡ Ok (map plain_line lines.items)) }
+    ensures lines { IfOk result (λ lines. IsTrue (F.seen folder.old).tells
+        → script_in ((F.seen folder.old).file name.now) ≡ Ok (map plain_line lines.items)) }
     ensures refused { IfErr result (λ e. IsRefused (F.seen folder.old).tells (script_in ((F.seen folder.old).file name.now)) (Rose
         (F.seen folder.old).faults (F.seen folder.new).faults) e) }
     ensures same { SameFiles (F.seen folder.old) (F.seen folder.new) }

@@ -7,20 +7,9 @@ use Rattle.std.proofs.lemmas.Bool.Decides.{Decides-eqb}
 use Rattle.std.proofs.lemmas.List.{take-append-drop}
 use Rattle.std.proofs.lemmas.Slice.Eq.{bytes_eq-Decides}
 use Rattle.eid_tlv.specs.Objects.{object}
-use Rattle.eid_tlv.proofs.Forms.{tag_bytes-one, length_bytes-one}
 use Rattle.eid_tlv.proofs.Sizes.{object_size, tag_size, length_size}
 use Rattle.eid_model.specs.Bodies.{authentication_data, holds_value, holds_point}
-
--- an object with a tag and a length of a byte each
-pub short_object : (tag : ℕ) (value : List ℕ) → tag < 256 → length value < 0x80 → object tag value ≡ tag ∷ length value ∷ value
-unfolding object
-short_object tag value low short = rw (tag_bytes-one tag low, length_bytes-one (length value) short) refl
-
-pub data_spelled : (tag : ℕ) (value : List ℕ) → tag < 256 → length value ≤ 100 → authentication_data tag value ≡ 0x7C ∷ (length value + 2) ∷ tag ∷ length value ∷ value
-unfolding authentication_data
-data_spelled tag value low short =
-    let inner : object tag value ≡ tag ∷ length value ∷ value = short_object tag value low (omega arith) in
-    rw inner (short_object 0x7C (tag ∷ length value ∷ value) (omega arith) (omega arith) ∙ ap (λ (n : ℕ). 0x7C ∷ n ∷ tag ∷ length value ∷ value) (omega arith))
+use Rattle.eid_model.proofs.Forms.{data_spelled}
 
 abbrev header : ℕ → ℕ → List ℕ
 header tag size = 0x7C ∷ (size + 2) ∷ tag ∷ size ∷ []

@@ -313,7 +313,8 @@ impl Chip {
     /// A chip without power. It fits every journal without moments.
     pub fn new() -> Chip
         ensures off { result.running ≡ None }
-        ensures fits { (device : Device) (cells : List ℕ) (opening : FullRecord) → stands cells ≡ Some opening → Fits (scene result device cells) opening [] }
+        ensures fits { (device : Device) (cells : List ℕ) (opening : FullRecord) → stands cells ≡ Some opening
+            → Fits (scene result device cells) opening [] }
     {
         Chip { running: None }
     }

@@ -3,3 +3,4 @@ pub mod KeyBytes
 pub mod Journals
 pub mod Ledgers
 pub mod Books
+pub mod Forms

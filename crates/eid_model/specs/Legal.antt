@@ -116,4 +116,5 @@ AreLegal opening (m ∷ before) = IsLegalMoment opening before m × AreLegal ope
 -- answers
 abbrev pub IsOnlyJournal : Source → FullRecord → List PlainMoment → Type 0
 IsOnlyJournal source opening moments =
-    (other : List PlainMoment) → AreLegal opening other → AreSteady other → script other ≡ script moments → AnswersFrom source (asked other) → other ≡ moments
+    (other : List PlainMoment) → AreLegal opening other → AreSteady other → script other ≡ script moments
+    → AnswersFrom source (asked other) → other ≡ moments

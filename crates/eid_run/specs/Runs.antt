@@ -137,7 +137,8 @@ pub record RanLines (opening : FullRecord) (happened : List LineEffect) (old new
   pub legal : AreLegal opening (journal happened)
   pub steady : (Rose old.device.cuts new.device.cuts → ⊥) → AreSteady (journal happened)
   pub unplanned : IsTrue old.device.told → old.device.planned ≡ 0 → has_plan happened ≡ false → AreSteady (journal happened)
-  pub only : (source : Source) → AnswersFrom source (asked (journal happened)) → AreSteady (journal happened) → IsOnlyJournal source opening (journal happened)
+  pub only : (source : Source) → AnswersFrom source (asked (journal happened)) → AreSteady (journal happened)
+      → IsOnlyJournal source opening (journal happened)
   pub logged : new.copro.log ≡ old.copro.log ++ asked (journal happened)
   pub told : new.copro.told ≡ old.copro.told
   pub cells : MayHold (pending opening (journal happened)) (kept opening (journal happened)) (stands new.cells)
@@ -164,7 +165,8 @@ pub record IsRunSoFar (opening : FullRecord) (start now_at : Scene) (log log_now
   pub fits : Fits now_at opening (journal happened)
   pub legal : AreLegal opening (journal happened)
   pub steady : (Rose start.device.cuts now_at.device.cuts → ⊥) → AreSteady (journal happened)
-  pub unplanned : IsTrue start.device.told → start.device.planned ≡ 0 → has_plan happened ≡ false → AreSteady (journal happened) × (now_at.device.planned ≡ 0)
+  pub unplanned : IsTrue start.device.told → start.device.planned ≡ 0 → has_plan happened ≡ false
+      → AreSteady (journal happened) × (now_at.device.planned ≡ 0)
   pub later : start.device.cuts ≤ now_at.device.cuts
   pub same_told : now_at.device.told ≡ start.device.told
   pub dark : start.device.has_power ≡ false → is_off now_at.chip ≡ true → now_at.device.has_power ≡ false

@@ -47,4 +47,4 @@ returns g c =
     let s = setup o.0 cells (map plain_line c.in-Ok-load_script.lines.items) in
     let list = c.in-Ok-load_answers.told.items in
     let end = rw c.as_slice.ensures.value at c.run_and_store.ensures in
-    run_meets (Replay image script answers) image (script_answer list) s _ _ _ _ _ c.run_and_store.result (replay_ends image script answers s list _ _ _ _ (record { stood = o.1.stood; held = o.1.held; read = read }) listed) all.same all.later (end (script_answer list) o.0 (script_source list _ c.new-copro.ensures.told) o.1.is_record)
+    run_meets (Replay image script answers) image (script_answer list) s _ _ _ _ _ c.run_and_store.result (replay_ends image script answers s list _ _ _ _ (record { is_record = o.1.is_image; stood = o.1.stood; held = o.1.held; read = read }) listed) all.same all.later (end (script_answer list) o.0 (script_source list _ c.new-copro.ensures.told) o.1.is_record)

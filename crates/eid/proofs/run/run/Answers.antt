@@ -30,4 +30,4 @@ returns g c =
     let read = script_back _ _ script _ c.load_image.ensures.same c.in-Ok-load_script.ensures.lines in
     let s = setup o.0 cells (map plain_line c.in-Ok-load_script.lines.items) in
     let end = rw c.as_slice.ensures.value at c.run_and_store.ensures in
-    run_meets (Run image script c.args.start) image (model_answer c.args.start) s _ _ _ _ _ c.run_and_store.result (run_ends image script c.args.start s _ _ _ _ (record { stood = o.1.stood; held = o.1.held; read = read })) both.same both.later (end (model_answer c.args.start) o.0 (model_source c.args.start _ c.new-copro.ensures.told) o.1.is_record)
+    run_meets (Run image script c.args.start) image (model_answer c.args.start) s _ _ _ _ _ c.run_and_store.result (run_ends image script c.args.start s _ _ _ _ (record { is_record = o.1.is_image; stood = o.1.stood; held = o.1.held; read = read })) both.same both.later (end (model_answer c.args.start) o.0 (model_source c.args.start _ c.new-copro.ensures.told) o.1.is_record)
