@@ -5,8 +5,10 @@
 
 mod channels;
 mod ciphers;
+mod devices;
 mod messages;
 mod objects;
+mod records;
 mod templates;
 mod words;
 
@@ -45,6 +47,10 @@ fn answer(alloc: Global, line: &str) -> Answer {
         "date" => templates::date(alloc, words),
         "template" => templates::template(alloc, words),
         "identifier" => templates::identifier(alloc, words),
+        "record" => records::record(alloc, words),
+        "effect" => records::effect(alloc, words),
+        "device" => devices::device(alloc, words),
+        "store" => devices::store(alloc, words),
         _ => Err(Unanswered::Unclear),
     }
 }
