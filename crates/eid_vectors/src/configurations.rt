@@ -149,8 +149,8 @@ pub fn image(alloc: Global, words: &[&str]) -> words::Answer {
     }
 }
 
-/// `record CHANGES`: the text that shows the record of the configuration with these changes, with `|` for LF.
-pub fn record(alloc: Global, words: &[&str]) -> words::Answer {
+/// `show CHANGES`: the text that shows the record of the configuration with these changes, with `|` for LF.
+pub fn show(alloc: Global, words: &[&str]) -> words::Answer {
     let changes = joined(alloc, words)?;
     let document = changed(alloc, changes.as_str())?;
     match read_config(alloc, document.as_bytes()) {

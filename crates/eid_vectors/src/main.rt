@@ -7,9 +7,11 @@ mod channels;
 mod ciphers;
 mod configurations;
 mod coprocessors;
+mod devices;
 mod messages;
 mod objects;
 mod passwords;
+mod records;
 mod scripts;
 mod templates;
 mod words;
@@ -59,9 +61,13 @@ fn answer(alloc: Global, line: &str) -> Answer {
         "document" => configurations::document(alloc, words),
         "document-in" => configurations::document_in(alloc, words),
         "image" => configurations::image(alloc, words),
-        "record" => configurations::record(alloc, words),
+        "show" => configurations::show(alloc, words),
         "script" => scripts::script(alloc, words),
         "script-in" => scripts::script_in(alloc, words),
+        "record" => records::record(alloc, words),
+        "effect" => records::effect(alloc, words),
+        "device" => devices::device(alloc, words),
+        "store" => devices::store(alloc, words),
         _ => Err(Unanswered::Unclear),
     }
 }
