@@ -1,6 +1,6 @@
 -- What the run of a script ended in, and what it did: for the commands that read an image and a script,
 -- and then perhaps more.
-use Rattle.std.proofs.Common.{◌≡◌, ◌≢◌, ℕ, ◌≤◌, Bool, true, false, IsTrue, List, [], ◌++◌, length, Option, Some, None, Ok, Err, refl, sym, ap, ◌∙◌, subst, arith, inl, inr}
+use Rattle.std.proofs.Common.{◌≡◌, ◌≢◌, ℕ, ◌≤◌, IsTrue, List, [], ◌++◌, length, Option, Some, Ok, Err, refl, sym, ap, ◌∙◌, subst, arith, inl, inr}
 use Rattle.std.specs.Prelude.{IsSome}
 use Rattle.eid_base.specs.declared.codes.RunError.{RunError}
 use Rattle.eid_base.specs.declared.codes.RunError.TheVariants as run

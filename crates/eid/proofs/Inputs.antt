@@ -1,6 +1,6 @@
 -- What is read of an input file.
 use Rattle.std.proofs.Common.{◌≡◌, ℕ, ◌<◌, Bool, true, false, IsTrue, List, length, Option, Some, None, Result, Ok, Err, refl, sym, ap, ◌∙◌, arith, nat_eq, subst, inl, inr}
-use Rattle.std.specs.Prelude.{◌⊎◌, IfOk, IfErr, IsSome, IsSomeAnd, nat_le, nat_lt, Vec}
+use Rattle.std.specs.Prelude.{◌⊎◌, IfOk, IfErr, IsSome, IsSomeAnd, nat_le, Vec}
 use Rattle.std.specs.declared.alloc.Global.{Global}
 use Rattle.std.proofs.lemmas.Bool.Decides.{nat_tests}
 use Rattle.eid.specs.declared.exit.Exit.{Exit}
