@@ -1,5 +1,5 @@
 -- What the input files give, and what a command ends in by them. This project's own.
-use Rattle.std.specs.Prelude.{◌≡◌, ℕ, ◌<◌, ◌≤◌, Bool, IsTrue, List, length, Option, Some, None, Result, Ok, Err, ◌⊎◌, IsSomeAnd}
+use Rattle.std.specs.Prelude.{◌≡◌, ℕ, ◌<◌, ◌≤◌, Bool, IsTrue, List, length, Option, Some, None, Result, Ok, Err, ◌⊎◌, IsSome, IsSomeAnd}
 use Rattle.eid_record.specs.Plain.{FullRecord}
 use Rattle.eid_script.specs.Scripts.{ScriptLine, script_of}
 use Rattle.eid_copro.specs.declared.ask.Answer.{Answer}
@@ -56,7 +56,7 @@ expected (Show image) files = unless_refused (image_in (files image)) Done
 abbrev pub IsRead : Bool → Option (List ℕ) → ℕ → Type 0 → Read → Type 0
 IsRead tells file limit rose (read.Whole bytes) = (length bytes.items ≤ limit) × (IsTrue tells → file ≡ Some bytes.items)
 IsRead tells file limit rose read.TooLong = IsTrue tells → IsSomeAnd file (λ bytes. limit < length bytes)
-IsRead tells file limit rose read.NoMemory = Unit {0}
+IsRead tells file limit rose read.NoMemory = IsTrue tells → IsSome file
 IsRead tells file limit rose read.Failed = rose ⊎ (IsTrue tells × (file ≡ None))
 
 -- an input was refused: memory, a fault, or what the file is

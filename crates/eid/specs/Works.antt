@@ -1,5 +1,5 @@
 -- What the program did, and why it ended so. This project's own.
-use Rattle.std.specs.Prelude.{◌≡◌, Bool, IsTrue, ◌⊎◌}
+use Rattle.std.specs.Prelude.{◌≡◌, ◌≢◌, Bool, IsTrue, ◌⊎◌}
 use Rattle.eid_base.specs.Faults.{Rose}
 use Rattle.eid_base.specs.Seen.{FolderSeen, SinkSeen, SameFiles}
 use Rattle.eid.specs.declared.exit.Exit.{Exit}
@@ -23,6 +23,11 @@ HasReason tells expected folder_rose sink_rose BadImage = IsTrue tells → expec
 HasReason tells expected folder_rose sink_rose (BadScript line) = IsTrue tells → expected ≡ BadScript line
 HasReason tells expected folder_rose sink_rose (BadConfig key) = IsTrue tells → expected ≡ BadConfig key
 HasReason tells expected folder_rose sink_rose (BadAnswers line) = IsTrue tells → expected ≡ BadAnswers line
+
+-- no fault is told as another exit: a count of faults stayed as it was where the exit does not name one of its faults
+pub record NamesFaults (old new : FolderSeen) (before now : SinkSeen) (exit : Exit) : Type 0 where
+  pub folder : exit ≢ FileFault → new.faults ≡ old.faults
+  pub sink : exit ≢ SinkFault → now.faults ≡ before.faults
 
 -- the files are as before, and nothing was written
 pub record DidNothing (old new : FolderSeen) (before now : SinkSeen) : Type 0 where

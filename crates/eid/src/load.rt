@@ -1,5 +1,5 @@
 //! Reading the input files.
-ghost use Rattle.std.specs.Prelude.{◌≡◌, ◌≤◌, ◌⊎◌, map, vec_len, length, nat_lt, is_some, if◌then◌else◌, IsTrue, IsSome, IfOk, IfErr};
+ghost use Rattle.std.specs.Prelude.{◌≡◌, ◌≢◌, ◌≤◌, ◌⊎◌, map, vec_len, length, nat_lt, is_some, if◌then◌else◌, IsTrue, IsSome, IfOk, IfErr, IsErrOf};
 ghost use Rattle.eid_base.specs.Faults.{Rose};
 ghost use Rattle.eid_base.specs.Seen.{SameFiles};
 ghost use Rattle.eid_store.specs.Stands.{stands};
@@ -51,6 +51,7 @@ fn read_whole<F: Folder>(alloc: Global, folder: &mut F, name: &str, limit: usize
         (F.seen folder.new).faults) result }
     ensures same { SameFiles (F.seen folder.old) (F.seen folder.new) }
     ensures later { (F.seen folder.old).faults ≤ (F.seen folder.new).faults }
+    ensures still { result ≢ Read.Failed → (F.seen folder.new).faults ≡ (F.seen folder.old).faults }
 {
     match folder.read(alloc, name, limit) {
         Ok(bytes) => cut_off(bytes, limit),
@@ -103,6 +104,7 @@ pub fn load_image<F: Folder>(alloc: Global, folder: &mut F, name: &str) -> Resul
         (F.seen folder.new).faults) e) }
     ensures same { SameFiles (F.seen folder.old) (F.seen folder.new) }
     ensures later { (F.seen folder.old).faults ≤ (F.seen folder.new).faults }
+    ensures still { ¬ IsErrOf result Exit.FileFault → (F.seen folder.new).faults ≡ (F.seen folder.old).faults }
 {
     match read_whole(alloc, folder, name, IMAGE_SIZE) {
         Read::Whole(bytes) => image_of(alloc, bytes),
@@ -132,6 +134,7 @@ pub fn load_script<F: Folder>(alloc: Global, folder: &mut F, name: &str) -> Resu
         (F.seen folder.old).faults (F.seen folder.new).faults) e) }
     ensures same { SameFiles (F.seen folder.old) (F.seen folder.new) }
     ensures later { (F.seen folder.old).faults ≤ (F.seen folder.new).faults }
+    ensures still { ¬ IsErrOf result Exit.FileFault → (F.seen folder.new).faults ≡ (F.seen folder.old).faults }
 {
     match read_whole(alloc, folder, name, SCRIPT_LIMIT) {
         Read::Whole(text) => script_of_text(alloc, text.as_slice()),
@@ -164,6 +167,7 @@ pub fn load_answers<F: Folder>(
         (F.seen folder.old).faults (F.seen folder.new).faults) e) }
     ensures same { SameFiles (F.seen folder.old) (F.seen folder.new) }
     ensures later { (F.seen folder.old).faults ≤ (F.seen folder.new).faults }
+    ensures still { ¬ IsErrOf result Exit.FileFault → (F.seen folder.new).faults ≡ (F.seen folder.old).faults }
 {
     match read_whole(alloc, folder, name, ANSWERS_LIMIT) {
         Read::Whole(text) => answers_of_text(alloc, text.as_slice()),
@@ -194,6 +198,7 @@ pub fn load_config<F: Folder>(alloc: Global, folder: &mut F, name: &str) -> Resu
         (F.seen folder.old).faults (F.seen folder.new).faults) e) }
     ensures same { SameFiles (F.seen folder.old) (F.seen folder.new) }
     ensures later { (F.seen folder.old).faults ≤ (F.seen folder.new).faults }
+    ensures still { ¬ IsErrOf result Exit.FileFault → (F.seen folder.new).faults ≡ (F.seen folder.old).faults }
 {
     match read_whole(alloc, folder, name, CONFIG_LIMIT) {
         Read::Whole(text) => config_of_text(alloc, text.as_slice()),

@@ -2,7 +2,7 @@
 ghost use Rattle.std.specs.Prelude.{◌≡◌, map, string_bytes};
 ghost use Rattle.eid.specs.Commands.{Command, Says};
 ghost use Rattle.eid.specs.Words.{command};
-ghost use Rattle.eid.specs.Works.{Meets, IsIdle};
+ghost use Rattle.eid.specs.Works.{Meets, NamesFaults, IsIdle};
 
 use crate::exit::Exit;
 use crate::make::make;
@@ -20,7 +20,8 @@ fn carry_out<F: Folder, K: Sink>(
     folder: &mut F,
     out: &mut K,
 ) -> Exit
-    ensures { Meets (command words.entry) (F.seen folder.old) (F.seen folder.new) (K.seen out.old) (K.seen out.new) result }
+    ensures meets { Meets (command words.entry) (F.seen folder.old) (F.seen folder.new) (K.seen out.old) (K.seen out.new) result }
+    ensures faults { NamesFaults (F.seen folder.old) (F.seen folder.new) (K.seen out.old) (K.seen out.new) result }
 {
     match words {
         Words::Run {
@@ -41,7 +42,8 @@ fn carry_out<F: Folder, K: Sink>(
 /// Does what the words ask for, over a folder and a sink.
 ///
 /// # Errors
-/// `Usage` exactly where the words fit no command, but for want of memory.
+/// `Usage` exactly where the words fit no command, but for want of memory. A fault of the folder or of the sink is told
+/// as such and never as another exit; `Meets` says when each of the others comes.
 pub fn program<F: Folder, K: Sink>(
     alloc: Global,
     words: &[String],
@@ -53,6 +55,7 @@ pub fn program<F: Folder, K: Sink>(
         → IsIdle (F.seen folder.old) (F.seen folder.new) (K.seen out.old) (K.seen out.new) result }
     ensures meets { (c : Command) → Says (map (λ s. string_bytes s) words.now) c
         → Meets c (F.seen folder.old) (F.seen folder.new) (K.seen out.old) (K.seen out.new) result }
+    ensures faults { NamesFaults (F.seen folder.old) (F.seen folder.new) (K.seen out.old) (K.seen out.new) result }
 {
     match read_words(alloc, words) {
         Ok(Some(words)) => carry_out(alloc, words, folder, out),

@@ -1,6 +1,6 @@
 //! The command `replay`.
 ghost use Rattle.eid.specs.Commands.{Replay};
-ghost use Rattle.eid.specs.Works.{Meets};
+ghost use Rattle.eid.specs.Works.{Meets, NamesFaults};
 
 use crate::exit::Exit;
 use crate::load::{load_answers, load_image, load_script};
@@ -19,7 +19,8 @@ pub fn replay<F: Folder, K: Sink>(
     folder: &mut F,
     out: &mut K,
 ) -> Exit
-    ensures { Meets (Replay image.now script.now answers.now) (F.seen folder.old) (F.seen folder.new) (K.seen out.old) (K.seen out.new) result }
+    ensures meets { Meets (Replay image.now script.now answers.now) (F.seen folder.old) (F.seen folder.new) (K.seen out.old) (K.seen out.new) result }
+    ensures faults { NamesFaults (F.seen folder.old) (F.seen folder.new) (K.seen out.old) (K.seen out.new) result }
 {
     let cells = match load_image(alloc, folder, image) {
         Ok(cells) => cells,

@@ -6,7 +6,7 @@ ghost use Rattle.eid_copro.specs.Told.{Source};
 ghost use Rattle.eid_script.specs.Scripts.{plain_line};
 ghost use Rattle.eid.specs.Commands.{Run};
 ghost use Rattle.eid.specs.Run.{HasSource, IsEndOfRun, setup};
-ghost use Rattle.eid.specs.Works.{Meets};
+ghost use Rattle.eid.specs.Works.{Meets, NamesFaults};
 
 use crate::exit::Exit;
 use crate::load::{load_image, load_script};
@@ -31,9 +31,10 @@ pub fn run_and_store<C: Coprocessor, F: Folder, K: Sink>(
     requires size { length cells.items ≡ 65536 }
     requires stands { IsSome (stands cells.items) }
     requires log { (C.seen copro.old).log ≡ [] }
-    ensures { (source : Source) (opening : FullRecord) → HasSource (C.seen copro.old).told source → stands cells.items ≡ Some opening
+    ensures ends { (source : Source) (opening : FullRecord) → HasSource (C.seen copro.old).told source → stands cells.items ≡ Some opening
         → IsEndOfRun image.now source (setup opening cells.items (map plain_line lines.now)) (F.seen folder.old) (F.seen folder.new) (K.seen out.old)
         (K.seen out.new) result }
+    ensures faults { NamesFaults (F.seen folder.old) (F.seen folder.new) (K.seen out.old) (K.seen out.new) result }
 {
     let mut device = MemoryEeprom::new(cells);
     if let Err(error) = run_script(alloc, lines, &mut device, copro, out) {
@@ -55,7 +56,8 @@ pub fn run<F: Folder, K: Sink>(
     folder: &mut F,
     out: &mut K,
 ) -> Exit
-    ensures { Meets (Run image.now script.now start) (F.seen folder.old) (F.seen folder.new) (K.seen out.old) (K.seen out.new) result }
+    ensures meets { Meets (Run image.now script.now start) (F.seen folder.old) (F.seen folder.new) (K.seen out.old) (K.seen out.new) result }
+    ensures faults { NamesFaults (F.seen folder.old) (F.seen folder.new) (K.seen out.old) (K.seen out.new) result }
 {
     let cells = match load_image(alloc, folder, image) {
         Ok(cells) => cells,

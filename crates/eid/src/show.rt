@@ -4,7 +4,7 @@ ghost use Rattle.eid_record.specs.Plain.{FullRecord};
 ghost use Rattle.eid_store.specs.Stands.{stands};
 ghost use Rattle.eid_perso.specs.Show.{shown};
 ghost use Rattle.eid.specs.Commands.{Show};
-ghost use Rattle.eid.specs.Works.{Meets};
+ghost use Rattle.eid.specs.Works.{Meets, NamesFaults};
 
 use crate::exit::Exit;
 use crate::load::load_image;
@@ -31,7 +31,8 @@ fn text_of(alloc: Global, cells: Vec<u8>) -> Result<Vec<u8>, NoMemory>
 
 /// Shows an image: reads and checks it, and prints its record as text. Changes no file.
 pub fn show<F: Folder, K: Sink>(alloc: Global, image: &str, folder: &mut F, out: &mut K) -> Exit
-    ensures { Meets (Show image.now) (F.seen folder.old) (F.seen folder.new) (K.seen out.old) (K.seen out.new) result }
+    ensures meets { Meets (Show image.now) (F.seen folder.old) (F.seen folder.new) (K.seen out.old) (K.seen out.new) result }
+    ensures faults { NamesFaults (F.seen folder.old) (F.seen folder.new) (K.seen out.old) (K.seen out.new) result }
 {
     let cells = match load_image(alloc, folder, image) {
         Ok(cells) => cells,

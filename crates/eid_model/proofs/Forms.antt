@@ -29,12 +29,12 @@ pub form_written : (tag size : ℕ) (body : List ℕ) → tag < 256 → size ≤
 unfolding holds_value
 form_written tag size body low short = (
   λ h.
-    let both = and_parts (bytes_eq body (authentication_data tag (data_in body))) (length (data_in body) == size) h in
-    (data_in body, (bytes_eq-Decides body _).0 both.0, (Decides-eqb (length (data_in body)) size).0 both.1),
+      let both = and_parts (bytes_eq body (authentication_data tag (data_in body))) (length (data_in body) == size) h in
+      (data_in body, (bytes_eq-Decides body _).0 both.0, (Decides-eqb (length (data_in body)) size).0 both.1),
   λ w.
-    let value = w.0 in
-    let long : length value ≡ size = w.2 in
-    let same : data_in body ≡ value = ap data_in w.1 ∙ data_written tag value low (omega (arith, long)) in
-    let whole : body ≡ authentication_data tag (data_in body) = w.1 ∙ ap (authentication_data tag) (sym same) in
-    and_from _ _ ((bytes_eq-Decides body _).1 whole) ((Decides-eqb (length (data_in body)) size).1 (ap (λ (v : List ℕ). length v) same ∙ long)),
+      let value = w.0 in
+      let long : length value ≡ size = w.2 in
+      let same : data_in body ≡ value = ap data_in w.1 ∙ data_written tag value low (omega (arith, long)) in
+      let whole : body ≡ authentication_data tag (data_in body) = w.1 ∙ ap (authentication_data tag) (sym same) in
+      and_from _ _ ((bytes_eq-Decides body _).1 whole) ((Decides-eqb (length (data_in body)) size).1 (ap (λ (v : List ℕ). length v) same ∙ long)),
 )

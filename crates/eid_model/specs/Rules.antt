@@ -187,8 +187,12 @@ kind_rules =
     -- the file is present
     record { number = 37; status = fixed 0x6A82; kinds = ReadBinary ∷ []; holds = λ s. is_some (bytes_of_file s.kept (file_meant s)) } ∷
     -- the offset is at most the file's length
-    record { number = 38; status = fixed 0x6B00; kinds = ReadBinary ∷ [];
-      holds = λ s. nat_le (offset_meant s.command) (length (unwrap_or (bytes_of_file s.kept (file_meant s)) [])) } ∷ []
+    record {
+      number = 38;
+      status = fixed 0x6B00;
+      kinds = ReadBinary ∷ [];
+      holds = λ s. nat_le (offset_meant s.command) (length (unwrap_or (bytes_of_file s.kept (file_meant s)) []));
+    } ∷ []
 
 -- whether the coprocessor's answers let the command go on
 abbrev pub answer_rules : List RuleRow

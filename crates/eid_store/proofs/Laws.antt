@@ -1,12 +1,12 @@
 -- What holds of every store and of the cells that it fits: what proofs in crates above cite.
-use Rattle.std.proofs.Common.{◌≡◌, ℕ, ◌≤◌, Bool, true, false, cond, eqb, eqb-true, List, length, Option, Some, None, IsTrue, slice_index, refl}
+use Rattle.std.proofs.Common.{◌≡◌, ℕ, ◌≤◌, List, length, Option, Some, None, IsTrue, refl}
 use Rattle.std.specs.Prelude.{IsSomeAnd}
 use Rattle.eid_cells.specs.Device.{Device}
 use Rattle.eid_record.specs.Plain.{PlainEffect, FullRecord}
 use Rattle.eid_store.specs.declared.store.Store.{Store}
 use Rattle.eid_store.specs.declared.store.Store.TheVariants.{Slots}
 use Rattle.eid_store.specs.Complete.{IsComplete}
-use Rattle.eid_store.specs.Stands.{stands, two_slot_stands}
+use Rattle.eid_store.specs.Stands.{stands}
 use Rattle.eid_store.specs.Store.{fields_of, Fits, mount_cost, commit_cost}
 use Rattle.eid_store.proofs.TwoSlotLaws.{two_slot_complete, two_slot_fitting, two_slot_refitting, two_slot_mount, two_slot_commit}
 
@@ -43,17 +43,3 @@ pub commit_bound : (store : Store) (device : Device) (cells : List ℕ) (effect 
     → (5 ≤ commit_cost store cells effect) × (commit_cost store cells effect ≤ 384)
 unfolding Fits commit_cost
 commit_bound (Slots slots) device cells effect long fits = two_slot_commit slots device cells effect long fits
-
--- ---- while there is one layout only, which is mounted without a write
-
-chosen : (b : Bool) (found : Option FullRecord) (full : FullRecord) → cond b found None ≡ Some full → b ≡ true
-chosen true found full is = refl
-chosen false found full is = absurd cc
-
-pub first_layout : (cells : List ℕ) (full : FullRecord) → stands cells ≡ Some full → slice_index cells 0 ≡ 1
-unfolding stands two_slot_stands
-first_layout cells full is = eqb-true (slice_index cells 0) 1 (chosen (eqb (slice_index cells 0) 1) _ full is)
-
-pub first_layout_free : (cells : List ℕ) → slice_index cells 0 ≡ 1 → mount_cost cells ≡ 0
-unfolding mount_cost
-first_layout_free cells first = refl

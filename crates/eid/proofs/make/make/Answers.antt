@@ -4,17 +4,17 @@ use Rattle.eid_perso.specs.Config.{config_view}
 use Rattle.eid.proofs.EndsOfMake.{config_refused, made, make_done, make_not_stored}
 use Rattle.eid.proofs.make.make.Goals as goal
 
-pub returns-in-Err : goal.returns-in-Err
-returns-in-Err g c = λ sink. config_refused c.args.config.now c.args.image.now _ _ sink c.in-Err.exit c.load_config.ensures.same c.in-Err.ensures.refused
+pub returns-in-Err-clause-meets : goal.returns-in-Err-clause-meets
+returns-in-Err-clause-meets g c = λ sink. config_refused c.args.config.now c.args.image.now _ _ sink c.in-Err.exit c.load_config.ensures.same c.in-Err.ensures.refused
 
-pub returns-in-Ok-write : goal.returns-in-Ok-write
-returns-in-Ok-write g c = λ sink.
+pub returns-in-Ok-write-clause-meets : goal.returns-in-Ok-write-clause-meets
+returns-in-Ok-write-clause-meets g c = λ sink.
     let cells = c.in-Ok-image_of.cells.items in
     let is = made c.args.config.now _ (config_view c.in-Ok.config) cells c.in-Ok.ensures.said c.in-Ok-image_of.ensures.bytes c.in-Ok-image_of.ensures.size c.in-Ok-image_of.ensures.stands in
     make_done c.args.config.now c.args.image.now _ _ _ sink cells is c.load_config.ensures.same (rw c.as_slice.ensures.value at c.in-Ok-write.ensures.stored) c.write.ensures.others
 
-pub returns : goal.returns
-returns g c = λ sink.
+pub returns-clause-meets : goal.returns-clause-meets
+returns-clause-meets g c = λ sink.
     let cells = c.in-Ok-image_of.cells.items in
     let is = made c.args.config.now _ (config_view c.in-Ok.config) cells c.in-Ok.ensures.said c.in-Ok-image_of.ensures.bytes c.in-Ok-image_of.ensures.size c.in-Ok-image_of.ensures.stands in
     let there = rw c.in-Err-write.is at c.write.ensures.never_absent in

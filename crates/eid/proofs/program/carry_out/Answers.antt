@@ -1,5 +1,5 @@
 -- A command that is given no sink is one for the sink that is there.
 use Rattle.eid.proofs.program.carry_out.Goals as goal
 
-pub returns-in-Make : goal.returns-in-Make
-returns-in-Make g c = rw c.in-Make.is (c.make.ensures (g.K.Sink.seen c.args.out.now))
+pub returns-in-Make-clause-meets : goal.returns-in-Make-clause-meets
+returns-in-Make-clause-meets g c = rw c.in-Make.is (c.make.ensures.meets (g.K.Sink.seen c.args.out.now))

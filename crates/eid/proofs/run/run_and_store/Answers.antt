@@ -6,8 +6,8 @@ use Rattle.eid.specs.Run.{setup}
 use Rattle.eid.proofs.EndsOfRun.{broke_off, ran_whole, all_done, not_stored}
 use Rattle.eid.proofs.run.run_and_store.Goals as goal
 
-pub returns-in-Err : goal.returns-in-Err
-returns-in-Err g c = λ source opening has stood.
+pub returns-in-Err-clause-ends : goal.returns-in-Err-clause-ends
+returns-in-Err-clause-ends g c = λ source opening has stood.
     let s = setup opening c.args.cells.items (map plain_line c.args.lines.now) in
     let seen = g.C.Coprocessor.seen in
     let did = rw (c.new-device.ensures.cells, c.new-device.ensures.device) at c.in-Err.ensures.broke in
@@ -15,8 +15,8 @@ returns-in-Err g c = λ source opening has stood.
     let rose = rw c.in-Err.is at c.run_script.ensures.sink.fault in
     rw c.of_run.ensures (broke_off c.args.image.now source s _ (seen c.args.copro.now) (seen c.run_script.new.copro) _ _ _ _ c.in-Err.error has c.requires.log keeps (did opening stood) c.run_script.ensures.sink.tells (λ e. rose (ap Err e)))
 
-pub returns-in-Ok : goal.returns-in-Ok
-returns-in-Ok g c = λ source opening has stood.
+pub returns-in-Ok-clause-ends : goal.returns-in-Ok-clause-ends
+returns-in-Ok-clause-ends g c = λ source opening has stood.
     let s = setup opening c.args.cells.items (map plain_line c.args.lines.now) in
     let seen = g.C.Coprocessor.seen in
     let did = rw (c.new-device.ensures.cells, c.new-device.ensures.device) at c.in_default.ensures.did in
@@ -24,8 +24,8 @@ returns-in-Ok g c = λ source opening has stood.
     let stored = rw c.cells.ensures at c.in-Ok.ensures.stored in
     all_done c.args.image.now source s _ _ _ _ _ (ran_whole source s (seen c.args.copro.now) (seen c.run_script.new.copro) _ _ _ _ has c.requires.log keeps (did opening stood) c.run_script.ensures.sink.tells) c.run_script.new.cells.count stored c.write.ensures.others
 
-pub returns : goal.returns
-returns g c = λ source opening has stood.
+pub returns-clause-ends : goal.returns-clause-ends
+returns-clause-ends g c = λ source opening has stood.
     let s = setup opening c.args.cells.items (map plain_line c.args.lines.now) in
     let seen = g.C.Coprocessor.seen in
     let did = rw (c.new-device.ensures.cells, c.new-device.ensures.device) at c.in_default.ensures.did in
