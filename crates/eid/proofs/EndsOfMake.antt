@@ -10,8 +10,9 @@ use Rattle.eid_perso.specs.Image.{image}
 use Rattle.eid.specs.declared.exit.Exit.{Exit}
 use Rattle.eid.specs.declared.exit.Exit.TheVariants.{Done}
 use Rattle.eid.specs.Commands.{Make}
-use Rattle.eid.specs.Exits.{exit_not_stored}
-use Rattle.eid.specs.Inputs.{config_in, expected, IsRefused}
+use Rattle.eid.specs.Ends.{exit_not_stored}
+use Rattle.eid.specs.Inputs.{config_in, expected}
+use Rattle.eid.specs.Loads.{IsRefused}
 use Rattle.eid.specs.Make.{IsImageOf, MakeNotStored}
 use Rattle.eid.specs.Works.{Meets}
 use Rattle.eid.proofs.Inputs.{record_of_cells}

@@ -24,10 +24,12 @@ use Rattle.eid_run.specs.Runs.{journal, outside, DidLines, DidSomeLines}
 use Rattle.eid.specs.declared.exit.Exit.{Exit}
 use Rattle.eid.specs.declared.exit.Exit.TheVariants.{Done, Usage, FileFault, NoMemory, BadImage, BadScript, BadConfig, SinkFault, BadAnswers}
 use Rattle.eid.specs.Commands.{Command, Run, Replay}
-use Rattle.eid.specs.Exits.{exit_broken, exit_not_stored}
+use Rattle.eid.specs.Ends.{exit_broken, exit_not_stored}
 use Rattle.eid.specs.Images.{record_of}
-use Rattle.eid.specs.Inputs.{image_in, script_in, answers_in, unless_refused, expected, IsRefused}
-use Rattle.eid.specs.Run.{Setup, IsGiven, resting, RanWhole, RunFinished, RunBrokeOff, RunNotStored, HasSource, IsEndOfRun}
+use Rattle.eid.specs.Inputs.{image_in, script_in, answers_in, unless_refused, expected}
+use Rattle.eid.specs.Loads.{IsRefused}
+use Rattle.eid.specs.Run.{Setup, IsGiven, resting, RanWhole, RunFinished, RunBrokeOff, RunNotStored}
+use Rattle.eid.specs.Ends.{HasSource, IsEndOfRun}
 use Rattle.eid.specs.Works.{Finished, BrokeOff, NotStored, Meets}
 use Rattle.eid.proofs.Inputs.{image_of_cells, record_of_cells, record_long, some_of}
 use Rattle.eid.proofs.Refusals.{rose_later, same_twice, others_after, refused, refused_later}

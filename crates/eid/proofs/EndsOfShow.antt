@@ -11,8 +11,9 @@ use Rattle.eid_perso.specs.Show.{shown}
 use Rattle.eid.specs.declared.exit.Exit.{Exit}
 use Rattle.eid.specs.declared.exit.Exit.TheVariants.{Done}
 use Rattle.eid.specs.Commands.{Show}
-use Rattle.eid.specs.Exits.{exit_not_printed}
-use Rattle.eid.specs.Inputs.{image_in, expected, IsRefused}
+use Rattle.eid.specs.Ends.{exit_not_printed}
+use Rattle.eid.specs.Inputs.{image_in, expected}
+use Rattle.eid.specs.Loads.{IsRefused}
 use Rattle.eid.specs.Show.{IsTextOf, ShowBrokeOff}
 use Rattle.eid.specs.Works.{Meets}
 use Rattle.eid.proofs.Inputs.{image_read, record_of_cells, some_of}

@@ -12,7 +12,8 @@ use Rattle.eid_perso.specs.Reading.{config_of, document_in}
 use Rattle.eid.specs.Images.{record_of}
 use Rattle.eid_record.specs.Plain.{FullRecord}
 use Rattle.eid_store.specs.Stands.{stands}
-use Rattle.eid.specs.Inputs.{image_in, script_in, answers_in, config_in, or_bad, IsRefused, IsBad}
+use Rattle.eid.specs.Inputs.{image_in, script_in, answers_in, config_in, or_bad}
+use Rattle.eid.specs.Loads.{IsRefused, IsBad}
 
 -- the image, where the file holds these bytes
 pub image_read : (file : Option (List ℕ)) (bytes : List ℕ) (full : FullRecord) → file ≡ Some bytes → record_of bytes ≡ Some full → image_in file ≡ Ok full

@@ -1,9 +1,5 @@
 -- The statuses of exits, and the exits of what failed. This project's own.
 use Rattle.std.specs.Prelude.{ℕ}
-use Rattle.eid_base.specs.declared.codes.RunError.{RunError}
-use Rattle.eid_base.specs.declared.codes.RunError.TheVariants as run
-use Rattle.eid_base.specs.declared.outside.IoError.{IoError}
-use Rattle.eid_base.specs.declared.outside.IoError.TheVariants as io
 use Rattle.eid.specs.declared.exit.Exit.{Exit}
 use Rattle.eid.specs.declared.exit.Exit.TheVariants.{Done, Usage, FileFault, NoMemory, BadImage, BadScript, BadConfig, SinkFault, BadAnswers}
 
@@ -17,18 +13,3 @@ exit_status (BadScript line) = 5
 exit_status (BadConfig key) = 6
 exit_status SinkFault = 7
 exit_status (BadAnswers line) = 8
-
--- of a run that broke off, of a file that was not stored, and of a text that was not printed
-abbrev pub exit_broken : RunError → Exit
-exit_broken run.SinkFault = SinkFault
-exit_broken run.NoMemory = NoMemory
-
-abbrev pub exit_not_stored : IoError → Exit
-exit_not_stored io.NoMemory = NoMemory
-exit_not_stored io.Absent = FileFault
-exit_not_stored io.Fault = FileFault
-
-abbrev pub exit_not_printed : IoError → Exit
-exit_not_printed io.NoMemory = NoMemory
-exit_not_printed io.Absent = SinkFault
-exit_not_printed io.Fault = SinkFault

@@ -2,8 +2,10 @@ pub mod Commands
 pub mod Exits
 pub mod Images
 pub mod Inputs
+pub mod Loads
 pub mod Make
 pub mod Run
+pub mod Ends
 pub mod Show
 pub mod Sinks
 pub mod Words

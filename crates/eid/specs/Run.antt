@@ -1,13 +1,11 @@
 -- What the run of a script does. This project's own.
-use Rattle.std.specs.Prelude.{◌≡◌, ◌⊎◌, ℕ, true, false, IsTrue, List, [], Some, Ok, slice_index}
-use Rattle.eid_base.specs.Faults.{Rose}
+use Rattle.std.specs.Prelude.{◌≡◌, ℕ, true, false, IsTrue, List, [], Some, Ok, slice_index}
 use Rattle.eid_base.specs.Seen.{FolderSeen, SinkSeen, SameFiles, SameOthers, IsLeftBy}
 use Rattle.eid_record.specs.Plain.{FullRecord}
 use Rattle.eid_copro.specs.Model.{model_answer}
 use Rattle.eid_copro.specs.Script.{script_answer}
-use Rattle.eid_copro.specs.Told.{Source, Told, KeepsTo, AnswersFrom}
+use Rattle.eid_copro.specs.Told.{Source, AnswersFrom}
 use Rattle.eid_copro.specs.declared.ask.Answer.{Answer}
-use Rattle.eid_copro.specs.declared.ask.Ask.{Ask}
 use Rattle.eid_copro.specs.Seen.{CoproSeen}
 use Rattle.eid_cells.specs.Device.{Device}
 use Rattle.eid_model.specs.Moments.{asked, AreSteady}
@@ -15,8 +13,6 @@ use Rattle.eid_model.specs.Legal.{IsOnlyJournal}
 use Rattle.eid_model.specs.Ledger.{kept, pending, MayHold}
 use Rattle.eid_script.specs.Scripts.{ScriptLine}
 use Rattle.eid_run.specs.Runs.{journal, has_plan, outside, DidLines, DidSomeLines}
-use Rattle.eid.specs.declared.exit.Exit.{Exit}
-use Rattle.eid.specs.declared.exit.Exit.TheVariants.{Done, Usage, FileFault, NoMemory, BadImage, BadScript, BadConfig, SinkFault, BadAnswers}
 use Rattle.eid.specs.Images.{record_of}
 use Rattle.eid.specs.Inputs.{image_in, script_in, answers_in}
 
@@ -25,9 +21,6 @@ pub record Setup : Type 0 where
   pub opening : FullRecord
   pub cells : List ℕ
   pub lines : List ScriptLine
-
-abbrev pub setup : FullRecord → List ℕ → List ScriptLine → Setup
-setup opening cells lines = record { opening = opening; cells = cells; lines = lines }
 
 -- the files give it
 pub record IsGiven (image script_name : List ℕ) (old : FolderSeen) (s : Setup) : Type 0 where
@@ -92,19 +85,3 @@ abbrev pub OfReplay : (image script_name answers_name : List ℕ) → FolderSeen
 OfReplay image script_name answers_name old End =
     (s : Setup) × IsGiven image script_name old s
     × ((answers : List Answer) × (IsTrue old.tells → answers_in (old.file answers_name) ≡ Ok answers) × End (script_answer answers) s)
-
--- a coprocessor that tells this has its answers from the source
-abbrev pub HasSource : Told → Source → Type 0
-HasSource told source = (log : List Ask) → KeepsTo told log → AnswersFrom source log
-
--- how a run that had its inputs ended, by the exit
-abbrev pub IsEndOfRun : (image : List ℕ) → Source → Setup → FolderSeen → FolderSeen → SinkSeen → SinkSeen → Exit → Type 0
-IsEndOfRun image source s old new before now Done = RunFinished image source s old new before now
-IsEndOfRun image source s old new before now SinkFault = RunBrokeOff source s old new before now × Rose before.faults now.faults
-IsEndOfRun image source s old new before now FileFault = RunNotStored image source s old new before now × Rose old.faults new.faults
-IsEndOfRun image source s old new before now NoMemory = RunBrokeOff source s old new before now ⊎ RunNotStored image source s old new before now
-IsEndOfRun image source s old new before now Usage = ⊥
-IsEndOfRun image source s old new before now BadImage = ⊥
-IsEndOfRun image source s old new before now (BadScript line) = ⊥
-IsEndOfRun image source s old new before now (BadConfig key) = ⊥
-IsEndOfRun image source s old new before now (BadAnswers line) = ⊥

@@ -1,3 +1,4 @@
+-- Inside: cited by private contracts alone.
 -- The words of the code as a command.
 use Rattle.eid.specs.declared.words.Words.{Words}
 use Rattle.eid.specs.declared.words.Words.TheVariants as variants

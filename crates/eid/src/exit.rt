@@ -1,6 +1,7 @@
 //! How the program ends.
 ghost use Rattle.std.specs.Prelude.{◌≡◌};
-ghost use Rattle.eid.specs.Exits.{exit_status, exit_broken, exit_not_stored, exit_not_printed};
+ghost use Rattle.eid.specs.Exits.{exit_status};
+ghost use Rattle.eid.specs.Ends.{exit_broken, exit_not_stored, exit_not_printed};
 
 use eid_base::{IoError, RunError};
 

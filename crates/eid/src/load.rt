@@ -8,7 +8,8 @@ ghost use Rattle.eid_copro.specs.Lines.{answers_of};
 ghost use Rattle.eid.specs.Images.{record_of};
 ghost use Rattle.eid_perso.specs.Config.{IsWhole, config_view};
 ghost use Rattle.eid_perso.specs.Reading.{config_of};
-ghost use Rattle.eid.specs.Inputs.{image_in, script_in, answers_in, config_in, or_bad, IsRead, IsRefused, IsBad};
+ghost use Rattle.eid.specs.Inputs.{image_in, script_in, answers_in, config_in, or_bad};
+ghost use Rattle.eid.specs.Loads.{IsRead, IsRefused, IsBad};
 
 use crate::exit::Exit;
 use eid_base::{Folder, IoError, NoMemory};

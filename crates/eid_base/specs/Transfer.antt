@@ -1,3 +1,4 @@
+-- Inside: cited by private contracts alone.
 -- What a writer took. This project's own.
 use Rattle.std.specs.Prelude.{ℕ, List, Option}
 use Rattle.std.specs.Io.KnownBytes.{Appends}

@@ -25,7 +25,7 @@ use Rattle.eid_chip.specs.declared.reaction.Ending.TheVariants as ended
 use Rattle.eid_chip.specs.declared.running.Running.{Running}
 use Rattle.eid_chip.specs.declared.session.Session.{Session}
 use Rattle.eid_chip.specs.Held.{held}
-use Rattle.eid_chip.specs.Commits.{World}
+use Rattle.eid_chip.specs.Worlds.{World}
 use Rattle.eid_chip.specs.States.{RunningView, ChipView, running_view, state}
 use Rattle.eid_chip.specs.Steps.{outcome_seen, message_in, sent_next, channel_left, state_left, IsEndedByRules, Responds}
 use Rattle.eid_chip.specs.Fits.{Scene, scene, Fits, Follows, Handles, HasState, IsSoundRunning, Came, Silence, Answer, Loss, moment_of}

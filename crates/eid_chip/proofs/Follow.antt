@@ -25,7 +25,7 @@ use Rattle.eid_apdu.specs.Answer.{PlainReply}
 use Rattle.eid_chip.specs.declared.reaction.Reaction.{Reaction}
 use Rattle.eid_chip.specs.declared.reaction.Ending.TheVariants.{Answered, Lost}
 use Rattle.eid_chip.specs.Held.{held}
-use Rattle.eid_chip.specs.Commits.{World}
+use Rattle.eid_chip.specs.Worlds.{World}
 use Rattle.eid_chip.specs.Steps.{IsEndedByRules, outcome_seen, state_left, state_due}
 
 -- ---- the channel

@@ -5,7 +5,8 @@ use Rattle.eid_sm.specs.Keys.{ChannelState}
 use Rattle.eid_model.specs.Sessions.{fresh}
 use Rattle.eid_chip.specs.Transitions.{state_refused, two_messages_later}
 use Rattle.eid_chip.specs.declared.session.Session.{Session}
-use Rattle.eid_chip.specs.States.{state, without_run}
+use Rattle.eid_chip.specs.States.{state}
+use Rattle.eid_chip.specs.Transitions.{without_run}
 
 -- a refusal that ends the session leaves a fresh one, any other takes the run
 pub left_by : (ends : Bool) (old new : Session) (channel : Option ChannelState) → (ends ≡ true → state new None ≡ fresh) → (ends ≡ false → (ch : Option ChannelState) → state new ch ≡ without_run (state old ch)) → state new (if ends then None else option_map two_messages_later channel) ≡ (if ends then fresh else state_refused (state old channel))

@@ -10,6 +10,8 @@ use Rattle.eid_record.specs.Plain.{FullRecord}
 use Rattle.eid_store.specs.declared.durable.MountError.{MountError}
 use Rattle.eid_store.specs.Stands.{stands}
 use Rattle.eid_store.specs.Store as store
+use Rattle.eid_sm.specs.declared.channel.Header.{Header}
+use Rattle.eid_sm.specs.Plain.{plain_of as with_body}
 use Rattle.eid_model.specs.Ledger.{kept, pending, MayHold}
 use Rattle.eid_model.specs.Moments.{Received, PlainMoment, on}
 use Rattle.eid_model.specs.Sessions.{state_of}
@@ -22,7 +24,6 @@ use Rattle.eid_chip.specs.declared.exchange.HandledIn.{HandledIn}
 use Rattle.eid_chip.specs.declared.exchange.HandledIn.TheVariants as in_exchange
 use Rattle.eid_chip.specs.Commits.{Wrote, WasCutBehind, SameLayout}
 use Rattle.eid_chip.specs.States.{ChipView, RunningView}
-use Rattle.eid_chip.specs.Steps.{plain_in}
 
 -- A chip, its device, and the device's cells.
 pub record Scene : Type 0 where
@@ -70,6 +71,10 @@ abbrev pub came : Handled → Came
 came Silent = Silence
 came (Answered plain finished rule answer sent) = Answer (option_map view.plain plain) finished rule.0 (plain_reply answer) sent.items
 came (Lost plain finished) = Loss (option_map view.plain plain) finished
+
+-- the plain command whose body stands in an exchange, where there is one
+abbrev pub plain_in : Exchange → Option Header → Option PlainCommand
+plain_in exchange plain = option_map (λ header. with_body header exchange.body.items) plain
 
 -- and in an exchange
 abbrev pub came_in : Exchange → HandledIn → Came

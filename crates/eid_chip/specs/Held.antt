@@ -1,3 +1,4 @@
+-- Inside: cited by private contracts alone.
 -- The record that a chip's cells stand for.
 use Rattle.std.specs.Prelude.{ℕ, false, List, [], Option, None, unwrap_or, slice_index_or}
 use Rattle.eid_record.specs.Plain.{PlainRecord, FullRecord}

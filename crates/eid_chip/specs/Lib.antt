@@ -5,4 +5,5 @@ pub mod States
 pub mod Steps
 pub mod Transitions
 pub mod Commits
+pub mod Worlds
 pub mod Naming

@@ -1,3 +1,4 @@
+-- Inside: cited by private contracts alone.
 -- What finding the kind of a command gives.
 use Rattle.std.specs.Prelude.{◌≡◌, ◌==◌, true, false, List, Some, None, Result, IfOk, IfErr, OnOk}
 use Rattle.eid_apdu.specs.Command.{PlainCommand}

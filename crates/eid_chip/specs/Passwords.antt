@@ -1,3 +1,4 @@
+-- Inside: cited by private contracts alone.
 -- The password of the PACE that a run carries out.
 use Rattle.eid_record.specs.declared.fields.Password.{Password}
 use Rattle.eid_record.specs.declared.fields.Password.TheVariants.{Can}

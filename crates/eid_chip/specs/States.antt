@@ -44,10 +44,6 @@ state s channel = record {
   channel = channel;
 }
 
--- the state without a run
-abbrev pub without_run : State → State
-without_run s = record { next = None; phase = Idle; selected = s.selected; current = s.current; pace = s.pace; channel = s.channel }
-
 -- A chip with power: its store, and its state.
 pub record RunningView : Type 0 where
   pub store : Store

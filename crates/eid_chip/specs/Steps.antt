@@ -1,3 +1,4 @@
+-- Inside: cited by private contracts alone.
 -- What one step of the chip promises: the questions that it puts, the outcome by the rules, and what the session is
 -- after it.
 use Rattle.std.specs.Prelude.{◌≡◌, ℕ, ◌<◌, ◌==◌, ◌||◌, List, [], length, Option, Some, None, option_map, if◌then◌else◌}
@@ -9,9 +10,7 @@ use Rattle.eid_copro.specs.declared.ask.Ask.{Ask}
 use Rattle.eid_copro.specs.declared.ask.Answer.{Answer}
 use Rattle.eid_record.specs.Plain.{FullRecord, PlainEffect}
 use Rattle.eid_copro.specs.Asking.{WereAsked}
-use Rattle.eid_sm.specs.declared.channel.Header.{Header}
 use Rattle.eid_sm.specs.Keys.{ChannelState, advanced, next_counter}
-use Rattle.eid_sm.specs.Plain.{plain_of as with_body}
 use Rattle.eid_sm.specs.Replies.{sealed}
 use Rattle.eid_model.specs.declared.kind.Kind.{Kind}
 use Rattle.eid_model.specs.Moments.{ends_session_by}
@@ -21,7 +20,6 @@ use Rattle.eid_model.specs.Rules.{Incoming, OfCommand, plain_of, Situation, Rule
 use Rattle.eid_model.specs.Answers.{Outcome, outcome, question, due, outcome_of, question_by, due_by, situation, kind_incoming, command_of}
 use Rattle.eid_model.specs.Legal.{IsReadAs, AreAsked}
 use Rattle.eid_chip.specs.Transitions.{state_answered, two_messages_later}
-use Rattle.eid_chip.specs.declared.exchange.Exchange.{Exchange}
 use Rattle.eid_chip.specs.declared.session.Session.{Session}
 use Rattle.eid_chip.specs.States.{state}
 use Rattle.eid_chip.specs.declared.refusal.Refusal.{Refusal}
@@ -29,7 +27,8 @@ use Rattle.eid_chip.specs.declared.reaction.Reaction.{Reaction}
 use Rattle.eid_chip.specs.declared.reaction.Ending.{Ending}
 use Rattle.eid_chip.specs.declared.reaction.Ending.TheVariants.{Answered, Lost}
 use Rattle.eid_chip.specs.Held.{held}
-use Rattle.eid_chip.specs.Commits.{World, Leaves, SameLayout}
+use Rattle.eid_chip.specs.Commits.{SameLayout}
+use Rattle.eid_chip.specs.Worlds.{World, Leaves}
 
 -- A refusal as numbers.
 pub record PlainRefusal : Type 0 where
@@ -131,10 +130,6 @@ pub record IsAnsweredByRules (kept : FullRecord) (old : State) (incoming : Incom
   pub ended : outcome (situation kept old incoming (answers_of asks)) ≡ outcome_seen reaction reply
   pub left : state_left reaction old.channel ≡ state_due reaction.rule.0 (state_answered reaction.rule.0 (kind_incoming old incoming) (command_of incoming)
       (answers_of asks) old)
-
--- the plain command whose body stands in an exchange, where there is one
-abbrev pub plain_in : Exchange → Option Header → Option PlainCommand
-plain_in exchange plain = option_map (λ header. with_body header exchange.body.items) plain
 
 -- bytes were incoming, in a channel or without one, and the command ended so
 pub record Responds (session : Session) (channel : Option ChannelState) (bytes : List ℕ) (plain : Option PlainCommand) (ending : Ending)

@@ -1,3 +1,4 @@
+-- Inside: cited by private contracts alone.
 -- What one command does to the state of a chip. Legality does not speak of it: that it is what a look back over the
 -- moments finds is proved.
 use Rattle.std.specs.Prelude.{ℕ, ◌==◌, List, Option, Some, None, is_some, option_map, unwrap_or, if◌then◌else◌}
@@ -40,3 +41,7 @@ state_refused old = record {
 abbrev pub state_answered : ℕ → Option Kind → PlainCommand → List Answer → State → State
 state_answered rule None c answers old = state_refused old
 state_answered rule (Some kind) c answers old = if rule == 0 then state_carried_out kind c answers old else state_refused old
+
+-- the state without a run
+abbrev pub without_run : State → State
+without_run s = record { next = None; phase = Idle; selected = s.selected; current = s.current; pace = s.pace; channel = s.channel }

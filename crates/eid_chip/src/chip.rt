@@ -16,8 +16,9 @@ ghost use Rattle.eid_model.specs.Kinds.{goes_on_in_run};
 ghost use Rattle.eid_model.specs.Legal.{silent};
 ghost use Rattle.eid_chip.specs.Held.{held};
 ghost use Rattle.eid_chip.specs.States.{next_of};
-ghost use Rattle.eid_chip.specs.Commits.{IsMounted, world};
-ghost use Rattle.eid_chip.specs.Steps.{Performed, Reacts, Responds, Stepped, message_in, plain_in, rule_of, sent_next};
+ghost use Rattle.eid_chip.specs.Worlds.{IsMounted, world};
+ghost use Rattle.eid_chip.specs.Steps.{Performed, Reacts, Responds, Stepped, message_in, rule_of, sent_next};
+ghost use Rattle.eid_chip.specs.Fits.{plain_in};
 
 use crate::ending::{ends_session, refused, uncommitted};
 use crate::exchange::{Exchange, Handled, HandledIn};

@@ -9,7 +9,8 @@ ghost use Rattle.eid_model.specs.Kinds.{is_by_short, file_of_short};
 ghost use Rattle.eid_model.specs.Rules.{file_meant, offset_meant};
 ghost use Rattle.eid_chip.specs.Held.{held};
 ghost use Rattle.eid_sm.specs.Keys.{ChannelState};
-ghost use Rattle.eid_chip.specs.States.{state, without_run};
+ghost use Rattle.eid_chip.specs.States.{state};
+ghost use Rattle.eid_chip.specs.Transitions.{without_run};
 ghost use Rattle.eid_chip.specs.Steps.{IsAnsweredByKind, known};
 
 use crate::ending::{answered, carried_out, refused};

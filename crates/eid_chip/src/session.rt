@@ -59,7 +59,8 @@ impl Session {
     ghost use Rattle.std.specs.Prelude.{Option, None};
     ghost use Rattle.eid_sm.specs.Keys.{ChannelState};
     ghost use Rattle.eid_model.specs.Sessions.{fresh};
-    ghost use Rattle.eid_chip.specs.States.{state, without_run};
+    ghost use Rattle.eid_chip.specs.States.{state};
+    ghost use Rattle.eid_chip.specs.Transitions.{without_run};
 
     /// The session that power begins.
     pub fn new() -> Session

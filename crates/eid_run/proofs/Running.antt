@@ -24,7 +24,8 @@ use Rattle.eid_chip.specs.Fits.{Scene, scene, Fits, Follows, Handles, IsSound, I
 use Rattle.eid_chip.specs.States.{ChipView, RunningView}
 use Rattle.eid_script.specs.declared.script.Line.{Line}
 use Rattle.eid_script.specs.Scripts.{ScriptLine, OnLine, OffLine, ApduLine, CutLine, plain_line}
-use Rattle.eid_run.specs.Runs.{LineEffect, Did, Planned, line_for, journal, is_plan, is_cut_line, line_of, text_of, was_cut, planned_by, IsLine, Keeps, DidLine, BrokeOffLine, IsFrontOfTrace, IsRunSoFar, RanLines, DidSomeLines, Outside}
+use Rattle.eid_run.specs.Runs.{LineEffect, Did, Planned, line_for, journal, is_plan, line_of, IsFrontOfTrace, RanLines, DidSomeLines, Outside}
+use Rattle.eid_run.specs.Lines.{is_cut_line, text_of, was_cut, planned_by, IsLine, Keeps, DidLine, BrokeOffLine, IsRunSoFar}
 
 -- ---- a power-on
 

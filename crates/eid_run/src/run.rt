@@ -11,7 +11,8 @@ ghost use Rattle.eid_apdu.specs.Command.{plain_command};
 ghost use Rattle.eid_sm.specs.Plain.{plain_of};
 ghost use Rattle.eid_chip.specs.Fits.{IsSound, scene, found, came_in, moment_of};
 ghost use Rattle.eid_script.specs.Scripts.{plain_line, OnLine, OffLine, ApduLine, CutLine};
-ghost use Rattle.eid_run.specs.Runs.{outside, Did, Planned, Keeps, IsLine, DidLine, BrokeOffLine, DidLines, DidSomeLines};
+ghost use Rattle.eid_run.specs.Runs.{outside, Did, Planned, DidLines, DidSomeLines};
+ghost use Rattle.eid_run.specs.Lines.{Keeps, IsLine, DidLine, BrokeOffLine};
 ghost use Rattle.eid_run.specs.Sinks.{TellsFault};
 
 use eid_apdu::Command;

@@ -3,7 +3,7 @@ use Rattle.std.specs.Prelude.{map}
 use Rattle.eid_copro.specs.Script.{script_answer}
 use Rattle.eid_script.specs.Scripts.{plain_line}
 use Rattle.eid.specs.Commands.{Replay}
-use Rattle.eid.specs.Run.{setup}
+use Rattle.eid.specs.Ends.{setup}
 use Rattle.eid.proofs.EndsOfRun.{replay_reads, image_refused, script_refused, answers_refused, opened, read_after, script_back, answers_back, script_source, replay_ends, run_meets}
 use Rattle.eid.proofs.replay.replay.Goals as goal
 

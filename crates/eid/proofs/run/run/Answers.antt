@@ -3,7 +3,7 @@ use Rattle.std.specs.Prelude.{map}
 use Rattle.eid_copro.specs.Model.{model_answer}
 use Rattle.eid_script.specs.Scripts.{plain_line}
 use Rattle.eid.specs.Commands.{Run}
-use Rattle.eid.specs.Run.{setup}
+use Rattle.eid.specs.Ends.{setup}
 use Rattle.eid.proofs.EndsOfRun.{run_reads, image_refused, script_refused, opened, read_after, script_back, model_source, run_ends, run_meets}
 use Rattle.eid.proofs.run.run.Goals as goal
 

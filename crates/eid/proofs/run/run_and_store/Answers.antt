@@ -2,7 +2,7 @@
 use Rattle.std.proofs.Common.{ap, Err}
 use Rattle.std.specs.Prelude.{map}
 use Rattle.eid_script.specs.Scripts.{plain_line}
-use Rattle.eid.specs.Run.{setup}
+use Rattle.eid.specs.Ends.{setup}
 use Rattle.eid.proofs.EndsOfRun.{broke_off, ran_whole, all_done, not_stored}
 use Rattle.eid.proofs.run.run_and_store.Goals as goal
 

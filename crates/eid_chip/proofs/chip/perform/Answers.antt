@@ -2,7 +2,7 @@
 use Rattle.std.proofs.Common.{sym, subst}
 use Rattle.eid_apdu.specs.Command.{plain_command}
 use Rattle.eid_apdu.specs.Answer.{plain_reply}
-use Rattle.eid_chip.specs.Commits.{world}
+use Rattle.eid_chip.specs.Worlds.{world}
 use Rattle.eid_chip.specs.declared.reaction.Ending.{Ending}
 use Rattle.eid_chip.specs.Steps.{Performed}
 use Rattle.eid_chip.proofs.Outcomes.{performed}

@@ -4,7 +4,8 @@ use Rattle.eid_sm.specs.Keys.{ChannelState}
 use Rattle.eid_model.specs.Moments.{ends_session_by}
 use Rattle.eid_model.specs.Sessions.{fresh}
 use Rattle.eid_chip.specs.declared.session.Session.{Session}
-use Rattle.eid_chip.specs.States.{state, without_run}
+use Rattle.eid_chip.specs.States.{state}
+use Rattle.eid_chip.specs.Transitions.{without_run}
 use Rattle.eid_chip.proofs.Refusals.{left_by}
 use Rattle.eid_chip.proofs.ending.refused.Goals as goal
 use Rattle.eid_chip.proofs.ending.refused.Goals.{then-ends_session, else-ends_session}

@@ -6,7 +6,7 @@ use Rattle.eid_apdu.specs.Answer.{plain_reply}
 use Rattle.eid_sm.specs.Keys.{ChannelState}
 use Rattle.eid_model.specs.Moments.{ends_session_by}
 use Rattle.eid_chip.specs.declared.reaction.Ending.{Ending}
-use Rattle.eid_chip.specs.Commits.{world}
+use Rattle.eid_chip.specs.Worlds.{world}
 use Rattle.eid_chip.specs.States.{ChipView, running_view}
 use Rattle.eid_chip.specs.Steps.{message_in, sent_next, rule_of}
 use Rattle.eid_chip.proofs.Chips.{handles_answer, handles_loss, handles_silence, sent_so, kept_channel}
