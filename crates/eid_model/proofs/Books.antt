@@ -12,49 +12,65 @@ use Rattle.eid_model.specs.Moments.{Event, PoweredOn, PoweredOff, Received, Plai
 use Rattle.eid_model.specs.Runs.{answers_of}
 use Rattle.eid_model.specs.Sessions.{State, state_of}
 use Rattle.eid_model.specs.declared.kind.Kind.{Kind}
-use Rattle.eid_model.specs.declared.kind.Kind.TheVariants.{SelectApplication, SelectMasterFile, SelectFile, ReadBinary, SelectPace, EncryptedNonce, MapNonce, PerformKeyAgreement, MutualAuthentication, NoStep}
-use Rattle.eid_model.specs.Rules.{Incoming, NoCommand, MissingObjects, WrongObjects, OfCommand, Situation, RuleRow, plain_of, answer_rules, first_failed}
-use Rattle.eid_model.specs.Answers.{due, due_by, due_of, situation, rules_before}
+use Rattle.eid_model.specs.declared.kind.Kind.TheVariants.{SelectApplication, SelectMasterFile, SelectFile, ReadBinary, SelectPace, EncryptedNonce, MapNonce, PerformKeyAgreement, MutualAuthentication, ChangePin, UnblockPin, NoStep}
+use Rattle.eid_model.specs.Rules.{Incoming, NoCommand, MissingObjects, WrongObjects, OfCommand, Situation, RuleRow, plain_of, answer_rules, commit_rules, first_failed, proves_pin, is_token, token_effects, to_commit}
+use Rattle.eid_model.specs.Answers.{due, due_by, situation, rules_before}
+use Rattle.eid_model.specs.Bodies.{data_in}
 use Rattle.eid_model.specs.Legal.{silent}
 use Rattle.eid_model.specs.Ledger.{Books, books, books_more, books_found, books_handled, due_at, first_of, ledger, pending, kept, record_after, onto, all_committed, MayHold, MayFind}
 use Rattle.eid_model.proofs.Ledgers.{IsEntered, AreEntered, record_more, record_onto, take_entered, drop_entered}
 
 -- ---- what is due
 
--- no kind of this stage commits
-none_due : (kind : Option Kind) (s : Situation) → due_of kind s ≡ []
-none_due None s = refl
-none_due (Some SelectApplication) s = refl
-none_due (Some SelectMasterFile) s = refl
-none_due (Some SelectFile) s = refl
-none_due (Some ReadBinary) s = refl
-none_due (Some SelectPace) s = refl
-none_due (Some EncryptedNonce) s = refl
-none_due (Some MapNonce) s = refl
-none_due (Some PerformKeyAgreement) s = refl
-none_due (Some MutualAuthentication) s = refl
-none_due (Some NoStep) s = refl
+token_entered : (pin right : Bool) → AreEntered (token_effects pin right)
+token_entered true true = (tt, (tt, tt))
+token_entered true false = (tt, tt)
+token_entered false right = tt
+
+-- what the kinds commit is entered
+kind_entered : (kind : Option Kind) (s : Situation) → AreEntered (to_commit kind s)
+kind_entered None s = tt
+kind_entered (Some SelectApplication) s = tt
+kind_entered (Some SelectMasterFile) s = tt
+kind_entered (Some SelectFile) s = tt
+kind_entered (Some ReadBinary) s = tt
+kind_entered (Some SelectPace) s = tt
+kind_entered (Some EncryptedNonce) s = tt
+kind_entered (Some MapNonce) s = tt
+kind_entered (Some PerformKeyAgreement) s = tt
+kind_entered (Some MutualAuthentication) s =
+    token_entered (proves_pin s.state.phase) (is_token (data_in s.command.body) s.state.phase)
+kind_entered (Some ChangePin) s = (tt, tt)
+kind_entered (Some UnblockPin) s = (tt, tt)
+kind_entered (Some NoStep) s = tt
+
+if_entered : (b : Bool) (effects : List PlainEffect) → AreEntered effects → AreEntered (if b then effects else [])
+if_entered true effects are = are
+if_entered false effects are = tt
+
+pub due_entered : (s : Situation) → AreEntered (due s)
+unfolding due
+due_entered s =
+    if_entered (is_none (first_failed (rules_before ++ answer_rules ++ commit_rules) s)) (to_commit s.kind s) (kind_entered s.kind s)
 
 if_same : {A : Type 0} (b : Bool) (x y : A) → x ≡ y → (if b then x else y) ≡ y
 if_same true x y e = e
 if_same false x y e = refl
 
-pub nothing_due_by : (rows : List RuleRow) (s : Situation) → due_by rows s ≡ []
-nothing_due_by rows s = if_same (is_none (first_failed (rows ++ answer_rules) s)) (due_of s.kind s) [] (none_due s.kind s)
+-- nothing is due of a kind that commits nothing
+pub nothing_due_by : (rows : List RuleRow) (s : Situation) → to_commit s.kind s ≡ [] → due_by rows s ≡ []
+nothing_due_by rows s none = if_same (is_none (first_failed (rows ++ answer_rules ++ commit_rules) s)) (to_commit s.kind s) [] none
 
-pub nothing_due : (s : Situation) → due s ≡ []
+pub nothing_due : (s : Situation) → to_commit s.kind s ≡ [] → due s ≡ []
 unfolding due
-nothing_due s = nothing_due_by rules_before s
-
-pub due_entered : (s : Situation) → AreEntered (due s)
-due_entered s = subst AreEntered (sym (nothing_due s)) tt
+nothing_due s none = nothing_due_by rules_before s none
 
 -- what is no command has no effects due
 pub due_incoming : (full opening : FullRecord) (before : List PlainMoment) (incoming : Incoming) (m : PlainMoment) → m.plain ≡ plain_of incoming
     → due_at full opening before m.plain m ≡ due (situation full (state_of opening before) incoming (answers_of m.asks))
-due_incoming full opening before NoCommand m is = rw is (sym (nothing_due _))
-due_incoming full opening before MissingObjects m is = rw is (sym (nothing_due _))
-due_incoming full opening before WrongObjects m is = rw is (sym (nothing_due _))
+due_incoming full opening before NoCommand m is = rw is (sym (nothing_due _ refl))
+due_incoming full opening before MissingObjects m is = rw is (sym (nothing_due _ refl))
+due_incoming full opening before WrongObjects m is = rw is (sym (nothing_due _ refl))
 due_incoming full opening before (OfCommand c) m is = rw is refl
 
 at_entered : (full opening : FullRecord) (before : List PlainMoment) (c : Option PlainCommand) (m : PlainMoment) → AreEntered (due_at full opening before c m)

@@ -10,7 +10,7 @@ use Rattle.eid_pace.specs.Check.{done_by}
 use Rattle.eid_sm.specs.Keys.{Keys, ChannelState}
 use Rattle.eid_sm.specs.Parts.{AreBytes}
 use Rattle.eid_model.specs.declared.kind.Kind.{Kind}
-use Rattle.eid_model.specs.declared.kind.Kind.TheVariants.{SelectApplication, SelectMasterFile, SelectFile, ReadBinary, SelectPace, EncryptedNonce, MapNonce, PerformKeyAgreement, MutualAuthentication, NoStep}
+use Rattle.eid_model.specs.declared.kind.Kind.TheVariants.{SelectApplication, SelectMasterFile, SelectFile, ReadBinary, SelectPace, EncryptedNonce, MapNonce, PerformKeyAgreement, MutualAuthentication, ChangePin, UnblockPin, NoStep}
 use Rattle.eid_model.specs.Moments.{PlainMoment}
 use Rattle.eid_model.specs.Runs.{Phase, Idle, Chose, SentNonce, HasBase, HasSecret, run, phase}
 use Rattle.eid_model.specs.Sessions.{pace_done, pace_by, kind_of_moment, pace_completed, keys_of, channel_keys, channel, channel_after, commands_since_opening}
@@ -67,6 +67,8 @@ done_bytes SelectPace p done is = absurd (cc)
 done_bytes EncryptedNonce p done is = absurd (cc)
 done_bytes MapNonce p done is = absurd (cc)
 done_bytes PerformKeyAgreement p done is = absurd (cc)
+done_bytes ChangePin p done is = absurd (cc)
+done_bytes UnblockPin p done is = absurd (cc)
 done_bytes NoStep p done is = absurd (cc)
 
 -- and the keys of the channel that was opened last

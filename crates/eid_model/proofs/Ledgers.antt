@@ -2,8 +2,6 @@
 use Rattle.std.proofs.Common.{◌≡◌, ℕ, zero, suc, ◌+◌, List, [], ◌∷◌, length, take, drop, Option, Some, None, refl, sym, ap, ◌∙◌, subst, arith}
 use Rattle.eid_record.specs.Plain.{PlainRecord, FullRecord, PlainEffect, Spend, Refill, Unblock, SetPin, SetCan, Active, Advance, Write}
 use Rattle.eid_record.specs.Effect.{committed}
-use Rattle.eid_model.specs.Rules.{Situation, RuleRow, first_failed, answer_rules}
-use Rattle.eid_model.specs.Answers.{due, due_by, due_of}
 use Rattle.eid_model.specs.Ledger.{byte_after, bytes_after, files_kept, record_after, onto, all_committed}
 
 same_bytes : (file place : ℕ) (bytes : List ℕ) → bytes_after file place bytes [] ≡ bytes

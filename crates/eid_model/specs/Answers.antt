@@ -8,16 +8,17 @@ use Rattle.eid_copro.specs.declared.ask.Question.TheVariants as questions
 use Rattle.eid_copro.specs.declared.ask.Answer.{Answer}
 use Rattle.eid_copro.specs.declared.ask.Answer.TheVariants as answers
 use Rattle.eid_record.specs.Plain.{FullRecord, PlainRecord, PlainTrustPoint, PlainEffect}
-use Rattle.eid_password.specs.Passwords.{digits_of}
+use Rattle.eid_password.specs.Passwords.{digits_of, select_status}
 use Rattle.eid_pace.specs.Check.{chip_token}
 use Rattle.eid_pace.specs.Keys.{encrypted_nonce}
+use Rattle.eid_pace.specs.States.{PlainChoice}
 use Rattle.eid_model.specs.declared.kind.Kind.{Kind}
-use Rattle.eid_model.specs.declared.kind.Kind.TheVariants.{SelectApplication, SelectMasterFile, SelectFile, ReadBinary, SelectPace, EncryptedNonce, MapNonce, PerformKeyAgreement, MutualAuthentication, NoStep}
+use Rattle.eid_model.specs.declared.kind.Kind.TheVariants.{SelectApplication, SelectMasterFile, SelectFile, ReadBinary, SelectPace, EncryptedNonce, MapNonce, PerformKeyAgreement, MutualAuthentication, ChangePin, UnblockPin, NoStep}
 use Rattle.eid_model.specs.Bodies.{data_in, authentication_data}
 use Rattle.eid_model.specs.Kinds.{kind_named}
-use Rattle.eid_model.specs.Runs.{Phase, Chose, SentNonce, HasBase, HasSecret}
+use Rattle.eid_model.specs.Runs.{Phase, Chose, SentNonce, HasBase, HasSecret, choice_in}
 use Rattle.eid_model.specs.Sessions.{State}
-use Rattle.eid_model.specs.Rules.{Incoming, OfCommand, Situation, RuleRow, transport_rules, naming_rules, request_rules, kind_rules, answer_rules, proof_rules, first_failed, bytes_of_file, file_meant, offset_meant}
+use Rattle.eid_model.specs.Rules.{Incoming, OfCommand, Situation, RuleRow, transport_rules, naming_rules, request_rules, kind_rules, answer_rules, commit_rules, proof_rules, first_failed, to_commit, bytes_of_file, file_meant, offset_meant}
 
 abbrev pub status_alone : ℕ → PlainReply
 status_alone status = record { content = []; status = status }
@@ -32,6 +33,11 @@ read_reply left ne = record {
   content = take ne left;
   status = if nat_lt (length left) ne && not (ne == 256 || ne == 65536) then 0x6282 else 0x9000;
 }
+
+-- what is told of the password that was chosen
+abbrev pub select_reply : PlainRecord → Option PlainChoice → PlainReply
+select_reply kept None = status_alone 0x9000
+select_reply kept (Some choice) = status_alone (select_status kept choice.password)
 
 -- the encrypted nonce in 80
 abbrev pub nonce_reply : PlainRecord → Phase → List Answer → PlainReply
@@ -62,11 +68,13 @@ success_of SelectMasterFile s = status_alone 0x9000
 success_of SelectFile s = status_alone 0x9000
 success_of ReadBinary s =
     read_reply (drop (offset_meant s.command) (unwrap_or (bytes_of_file s.kept (file_meant s)) [])) s.command.ne
-success_of SelectPace s = status_alone 0x9000
+success_of SelectPace s = select_reply s.kept.fields (choice_in s.command.body)
 success_of EncryptedNonce s = nonce_reply s.kept.fields s.state.phase s.answers
 success_of MapNonce s = point_reply 0x82 s.answers
 success_of PerformKeyAgreement s = point_reply 0x84 s.answers
 success_of MutualAuthentication s = token_reply s.kept.fields s.state.phase
+success_of ChangePin s = status_alone 0x9000
+success_of UnblockPin s = status_alone 0x9000
 success_of NoStep s = status_alone 0x9000
 
 abbrev pub success : Option Kind → Situation → PlainReply
@@ -126,6 +134,8 @@ question_of (Some EncryptedNonce) s = nonce_question s.state.phase s.answers
 question_of (Some MapNonce) s = map_question (data_in s.command.body) s.state.phase s.answers
 question_of (Some PerformKeyAgreement) s = agree_question (data_in s.command.body) s.state.phase s.answers
 question_of (Some MutualAuthentication) s = None
+question_of (Some ChangePin) s = None
+question_of (Some UnblockPin) s = None
 question_of (Some NoStep) s = None
 
 -- the rules before the answers
@@ -141,31 +151,17 @@ question s = question_by rules_before s
 
 -- the outcome, by these rules and those over all answers
 abbrev pub outcome_of : List RuleRow → Situation → Outcome
-outcome_of before s = outcome_by (first_failed (before ++ answer_rules ++ proof_rules) s) s
+outcome_of before s = outcome_by (first_failed (before ++ answer_rules ++ commit_rules ++ proof_rules) s) s
 
 unfoldable pub outcome : Situation → Outcome
 outcome s = outcome_of rules_before s
 
 -- ---- commits
 
--- the effects that a command of this kind commits where it is carried out, or where nothing but its proof is wrong, in
--- their order. No kind of this stage commits any.
-abbrev pub due_of : Option Kind → Situation → List PlainEffect
-due_of None s = []
-due_of (Some SelectApplication) s = []
-due_of (Some SelectMasterFile) s = []
-due_of (Some SelectFile) s = []
-due_of (Some ReadBinary) s = []
-due_of (Some SelectPace) s = []
-due_of (Some EncryptedNonce) s = []
-due_of (Some MapNonce) s = []
-due_of (Some PerformKeyAgreement) s = []
-due_of (Some MutualAuthentication) s = []
-due_of (Some NoStep) s = []
-
--- the effects due, by these rules and those over the answers: none where one of them fails
+-- The effects due, by these rules, those over the answers and those on commits: all that the kind commits; none where one
+-- of them fails.
 abbrev pub due_by : List RuleRow → Situation → List PlainEffect
-due_by before s = if is_none (first_failed (before ++ answer_rules) s) then due_of s.kind s else []
+due_by before s = if is_none (first_failed (before ++ answer_rules ++ commit_rules) s) then to_commit s.kind s else []
 
 unfoldable pub due : Situation → List PlainEffect
 due s = due_by rules_before s

@@ -4,7 +4,7 @@ use Rattle.std.specs.Prelude.{ℕ, ◌+◌, ◌*◌, ◌-◌, Bool, true, false,
 use Rattle.std.specs.List.{list_any}
 use Rattle.eid_apdu.specs.Command.{PlainCommand}
 use Rattle.eid_model.specs.declared.kind.Kind.{Kind}
-use Rattle.eid_model.specs.declared.kind.Kind.TheVariants.{SelectApplication, SelectMasterFile, SelectFile, ReadBinary, SelectPace, EncryptedNonce, MapNonce, PerformKeyAgreement, MutualAuthentication, NoStep}
+use Rattle.eid_model.specs.declared.kind.Kind.TheVariants.{SelectApplication, SelectMasterFile, SelectFile, ReadBinary, SelectPace, EncryptedNonce, MapNonce, PerformKeyAgreement, MutualAuthentication, ChangePin, UnblockPin, NoStep}
 
 -- the kinds by number, in the order of the table
 abbrev pub number_of : Kind → ℕ
@@ -17,7 +17,9 @@ number_of EncryptedNonce = 5
 number_of MapNonce = 6
 number_of PerformKeyAgreement = 7
 number_of MutualAuthentication = 8
-number_of NoStep = 9
+number_of ChangePin = 9
+number_of UnblockPin = 10
+number_of NoStep = 11
 
 abbrev pub same_kind : Kind → Kind → Bool
 same_kind a b = number_of a == number_of b
@@ -58,6 +60,8 @@ kinds =
     record { kind = MapNonce; classes = 0x10 ∷ []; instruction = 0x86; parameters = λ p. p == 0; comes = in_turn MapNonce } ∷
     record { kind = PerformKeyAgreement; classes = 0x10 ∷ []; instruction = 0x86; parameters = λ p. p == 0; comes = in_turn PerformKeyAgreement } ∷
     record { kind = MutualAuthentication; classes = 0x00 ∷ []; instruction = 0x86; parameters = λ p. p == 0; comes = in_turn MutualAuthentication } ∷
+    record { kind = ChangePin; classes = 0x00 ∷ []; instruction = 0x2C; parameters = λ p. p == 0x0203; comes = in_any_run } ∷
+    record { kind = UnblockPin; classes = 0x00 ∷ []; instruction = 0x2C; parameters = λ p. p == 0x0303; comes = in_any_run } ∷
     -- a GENERAL AUTHENTICATE that the run has not come to
     record { kind = NoStep; classes = 0x00 ∷ 0x10 ∷ []; instruction = 0x86; parameters = λ p. p == 0; comes = in_any_run } ∷ []
 
@@ -84,6 +88,8 @@ step_after EncryptedNonce = Some MapNonce
 step_after MapNonce = Some PerformKeyAgreement
 step_after PerformKeyAgreement = Some MutualAuthentication
 step_after MutualAuthentication = None
+step_after ChangePin = None
+step_after UnblockPin = None
 step_after NoStep = None
 
 -- a command of this kind begins a run, or goes on in it
@@ -97,6 +103,8 @@ begins_run EncryptedNonce = false
 begins_run MapNonce = false
 begins_run PerformKeyAgreement = false
 begins_run MutualAuthentication = false
+begins_run ChangePin = false
+begins_run UnblockPin = false
 begins_run NoStep = false
 
 abbrev pub goes_on_in_run : Kind → Bool
@@ -109,6 +117,8 @@ goes_on_in_run EncryptedNonce = true
 goes_on_in_run MapNonce = true
 goes_on_in_run PerformKeyAgreement = true
 goes_on_in_run MutualAuthentication = true
+goes_on_in_run ChangePin = false
+goes_on_in_run UnblockPin = false
 goes_on_in_run NoStep = false
 
 -- Files by number: EF.CardAccess is 0, EF.CardSecurity is 1, data group n is n + 1.

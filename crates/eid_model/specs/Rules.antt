@@ -2,22 +2,26 @@
 -- kind and does not hold. The numbers and their order are this project's own; the statuses are those
 -- of ISO/IEC 7816-4.
 use Rattle.std.specs.Prelude.{ℕ, ◌+◌, ◌*◌, ◌-◌, Bool, true, false, ◌==◌, ◌&&◌, ◌||◌, not, nat_le, nat_lt, List, [], ◌∷◌, length, Option, Some, None, is_some, unwrap_or, slice_index_or, if◌then◌else◌}
-use Rattle.std.specs.List.{list_any}
+use Rattle.std.specs.List.{list_all, list_any}
 use Rattle.std.specs.Str.{bytes_eq}
 use Rattle.eid_apdu.specs.Command.{PlainCommand}
-use Rattle.eid_record.specs.Plain.{FullRecord}
+use Rattle.eid_record.specs.Plain.{FullRecord, PlainRecord, PlainEffect, Spend, Refill, SetPin, Unblock}
+use Rattle.eid_record.specs.Effect.{applied}
+use Rattle.eid_record.specs.Reading.{is_ascii_digit}
+use Rattle.eid_record.specs.declared.fields.Password.{Password}
+use Rattle.eid_password.specs.Passwords.{is_can, is_pin, is_puk, has_try, is_resumed, active_rule, try_rule, resumed_rule}
 use Rattle.eid_model.specs.declared.kind.Kind.{Kind}
-use Rattle.eid_model.specs.declared.kind.Kind.TheVariants.{SelectApplication, SelectMasterFile, SelectFile, ReadBinary, SelectPace, EncryptedNonce, MapNonce, PerformKeyAgreement, MutualAuthentication, NoStep}
+use Rattle.eid_model.specs.declared.kind.Kind.TheVariants.{SelectApplication, SelectMasterFile, SelectFile, ReadBinary, SelectPace, EncryptedNonce, MapNonce, PerformKeyAgreement, MutualAuthentication, ChangePin, UnblockPin, NoStep}
 use Rattle.eid_model.specs.Kinds.{same_kind, kinds, has_instruction, has_parameters, is_by_short, file_of_short, file_of_id, card_access, card_security, application_id}
 use Rattle.eid_copro.specs.declared.ask.Answer.{Answer}
 use Rattle.eid_copro.specs.declared.ask.Answer.TheVariants as answers
 use Rattle.eid_copro.specs.Asking.{is_fault}
 use Rattle.eid_pace.specs.Check.{terminal_token}
-use Rattle.eid_pace.specs.Selections.{PlainSelection}
+use Rattle.eid_pace.specs.Selections.{PlainSelection, password_named}
 use Rattle.eid_pace.specs.SelectionIn.{selection_in}
 use Rattle.eid_model.specs.Bodies.{no_data, data_in, holds_value, holds_point}
-use Rattle.eid_model.specs.Runs.{Phase, HasSecret}
-use Rattle.eid_model.specs.Sessions.{State, number_of_two}
+use Rattle.eid_model.specs.Runs.{Phase, Idle, Chose, SentNonce, HasBase, HasSecret}
+use Rattle.eid_model.specs.Sessions.{State, PaceMemory, number_of_two}
 
 -- what the bytes received say: no command with a body of at most 2,200 bytes; in a channel, that the objects of
 -- secure messaging are missing, or wrong; or this command
@@ -55,6 +59,10 @@ fixed status s = status
 abbrev pub is_class : ℕ → Bool
 is_class class = class == 0x00 || class == 0x10 || class == 0x80
 
+-- the digits of a PIN
+abbrev pub PIN_SIZE : ℕ
+PIN_SIZE = 6
+
 -- the form of the body of each kind
 abbrev pub is_formed : Option Kind → List ℕ → Bool
 is_formed None body = true
@@ -67,6 +75,8 @@ is_formed (Some EncryptedNonce) body = bytes_eq body no_data
 is_formed (Some MapNonce) body = holds_point 0x81 body
 is_formed (Some PerformKeyAgreement) body = holds_point 0x83 body
 is_formed (Some MutualAuthentication) body = holds_value 0x85 8 body
+is_formed (Some ChangePin) body = length body == PIN_SIZE && list_all is_ascii_digit body
+is_formed (Some UnblockPin) body = length body == 0
 is_formed (Some NoStep) body = true
 
 -- the file that a READ means: of its short identifier, or the current one
@@ -89,6 +99,8 @@ is_named (Some EncryptedNonce) s = true
 is_named (Some MapNonce) s = true
 is_named (Some PerformKeyAgreement) s = true
 is_named (Some MutualAuthentication) s = true
+is_named (Some ChangePin) s = true
+is_named (Some UnblockPin) s = true
 is_named (Some NoStep) s = true
 
 -- the file's bytes, where it is present
@@ -116,10 +128,63 @@ abbrev pub is_data_group : Option ℕ → Bool
 is_data_group None = false
 is_data_group (Some file) = nat_lt card_security file
 
--- the reference names the CAN
-abbrev pub is_can : Option PlainSelection → Bool
-is_can None = false
-is_can (Some selection) = selection.reference == 2
+-- the reference names a password
+abbrev pub names_password : Option PlainSelection → Bool
+names_password None = false
+names_password (Some selection) = is_some (password_named selection.reference)
+
+-- a run of PACE with the PIN is about to begin
+abbrev pub starts_pin : Phase → Bool
+starts_pin Idle = false
+starts_pin (Chose choice) = is_pin choice.password
+starts_pin (SentNonce sent) = false
+starts_pin (HasBase mapped) = false
+starts_pin (HasSecret agreed) = false
+
+-- a PACE with the PIN has come to its tokens
+abbrev pub proves_pin : Phase → Bool
+proves_pin Idle = false
+proves_pin (Chose choice) = false
+proves_pin (SentNonce sent) = false
+proves_pin (HasBase mapped) = false
+proves_pin (HasSecret agreed) = is_pin agreed.choice.password
+
+-- the session's last PACE was with such a password
+abbrev pub was_with : (Password → Bool) → Option PaceMemory → Bool
+was_with is_such None = false
+was_with is_such (Some pace) = is_such pace.password
+
+-- the command reads EF.CardAccess, for which no PACE is needed
+abbrev pub reads_card_access : Option Kind → Option ℕ → Bool
+reads_card_access None file = false
+reads_card_access (Some SelectApplication) file = false
+reads_card_access (Some SelectMasterFile) file = false
+reads_card_access (Some SelectFile) file = false
+reads_card_access (Some ReadBinary) file = is_card_access file
+reads_card_access (Some SelectPace) file = false
+reads_card_access (Some EncryptedNonce) file = false
+reads_card_access (Some MapNonce) file = false
+reads_card_access (Some PerformKeyAgreement) file = false
+reads_card_access (Some MutualAuthentication) file = false
+reads_card_access (Some ChangePin) file = false
+reads_card_access (Some UnblockPin) file = false
+reads_card_access (Some NoStep) file = false
+
+-- the last PACE gives the right to manage the PIN: that with the PIN to change it, that with the PUK to unblock it
+abbrev pub may_manage : Option Kind → Option PaceMemory → Bool
+may_manage None pace = false
+may_manage (Some SelectApplication) pace = false
+may_manage (Some SelectMasterFile) pace = false
+may_manage (Some SelectFile) pace = false
+may_manage (Some ReadBinary) pace = false
+may_manage (Some SelectPace) pace = false
+may_manage (Some EncryptedNonce) pace = false
+may_manage (Some MapNonce) pace = false
+may_manage (Some PerformKeyAgreement) pace = false
+may_manage (Some MutualAuthentication) pace = false
+may_manage (Some ChangePin) pace = was_with is_pin pace
+may_manage (Some UnblockPin) pace = was_with is_puk pace
+may_manage (Some NoStep) pace = false
 
 -- the answer is no point
 abbrev pub is_no_point : Answer → Bool
@@ -135,6 +200,39 @@ is_own_point peer answers = false
 abbrev pub is_token : List ℕ → Phase → Bool
 is_token sent (HasSecret agreed) = bytes_eq sent (terminal_token agreed)
 is_token sent phase = false
+
+-- ---- what a command commits
+
+-- the last step of PACE with the PIN takes a try before the token is compared, and gives all tries back where it is right
+abbrev pub token_effects : (pin right : Bool) → List PlainEffect
+token_effects pin right = if pin then Spend ∷ (if right then Refill ∷ [] else []) else []
+
+-- the effects that a command of this kind commits where it is carried out, or where nothing but its proof is wrong, in
+-- their order
+abbrev pub to_commit : Option Kind → Situation → List PlainEffect
+to_commit None s = []
+to_commit (Some SelectApplication) s = []
+to_commit (Some SelectMasterFile) s = []
+to_commit (Some SelectFile) s = []
+to_commit (Some ReadBinary) s = []
+to_commit (Some SelectPace) s = []
+to_commit (Some EncryptedNonce) s = []
+to_commit (Some MapNonce) s = []
+to_commit (Some PerformKeyAgreement) s = []
+to_commit (Some MutualAuthentication) s = token_effects (proves_pin s.state.phase) (is_token (data_in s.command.body) s.state.phase)
+to_commit (Some ChangePin) s = SetPin s.command.body ∷ []
+to_commit (Some UnblockPin) s = Unblock (was_with is_puk s.state.pace) ∷ []
+to_commit (Some NoStep) s = []
+
+-- the greatest commit number after which commits are due: the last step of PACE may make two more
+abbrev pub LAST_NUMBER : ℕ
+LAST_NUMBER = 4294967293
+
+-- the status where the token is wrong: for the PIN with the number of the tries that are kept after the Spend
+abbrev pub token_status : PlainRecord → (pin : Bool) → ℕ
+token_status kept pin = if pin then 0x63C0 + (applied Spend kept).tries else 0x6300
+
+-- ---- the rules
 
 -- whether the command can be incoming at all
 abbrev pub transport_rules : List RuleRow
@@ -174,16 +272,41 @@ kind_rules =
     record { number = 9; status = fixed 0x6985; kinds = NoStep ∷ []; holds = λ s. false } ∷
     -- the body has the form of the kind
     record { number = 10; status = fixed 0x6A80; kinds = []; holds = λ s. is_formed s.kind s.command.body } ∷
-    -- the password's reference is that of the CAN
-    record { number = 11; status = fixed 0x6A88; kinds = SelectPace ∷ []; holds = λ s. is_can (selection_in s.command.body) } ∷
+    -- the reference names a password: 2 the CAN, 3 the PIN, 4 the PUK
+    record { number = 11; status = fixed 0x6A88; kinds = SelectPace ∷ []; holds = λ s. names_password (selection_in s.command.body) } ∷
     -- by offset alone: there is a current file
     record { number = 12; status = fixed 0x6986; kinds = ReadBinary ∷ []; holds = λ s. is_by_short s.command || is_some s.state.current } ∷
     -- the identifier is the application's, or names a file
     record { number = 13; status = fixed 0x6A82; kinds = SelectApplication ∷ SelectFile ∷ ReadBinary ∷ []; holds = λ s. is_named s.kind s } ∷
-    -- the session has a successful PACE, but for EF.CardAccess
-    record { number = 20; status = fixed 0x6982; kinds = ReadBinary ∷ []; holds = λ s. is_card_access (file_meant s) || is_some s.state.pace } ∷
+    -- PACE begins with the PIN: it is active
+    record { number = active_rule; status = fixed 0x6984; kinds = EncryptedNonce ∷ []; holds = λ s. not (starts_pin s.state.phase) || s.kept.fields.active } ∷
+    -- a try is left
+    record { number = try_rule; status = fixed 0x6983; kinds = EncryptedNonce ∷ []; holds = λ s. not (starts_pin s.state.phase) || has_try s.kept.fields } ∷
+    -- two tries are left, or the session's last PACE was with the CAN
+    record {
+      number = resumed_rule;
+      status = fixed 0x6985;
+      kinds = EncryptedNonce ∷ [];
+      holds = λ s. not (starts_pin s.state.phase) || is_resumed s.kept.fields (was_with is_can s.state.pace);
+    } ∷
+    -- the session has a successful PACE, but for a READ of EF.CardAccess
+    record {
+      number = 20;
+      status = fixed 0x6982;
+      kinds = ReadBinary ∷ ChangePin ∷ UnblockPin ∷ [];
+      holds = λ s. reads_card_access s.kind (file_meant s) || is_some s.state.pace;
+    } ∷
     -- for a data group: terminal authentication succeeded. No kind of this stage can have brought one.
     record { number = 26; status = fixed 0x6982; kinds = ReadBinary ∷ []; holds = λ s. not (is_data_group (file_meant s)) } ∷
+    -- that PACE was with the PIN, to change it, or with the PUK, to unblock the PIN
+    record { number = 29; status = fixed 0x6982; kinds = ChangePin ∷ UnblockPin ∷ []; holds = λ s. may_manage s.kind s.state.pace } ∷
+    -- after PACE with the PUK: an unblocking is left
+    record {
+      number = 30;
+      status = fixed 0x6983;
+      kinds = UnblockPin ∷ [];
+      holds = λ s. not (was_with is_puk s.state.pace) || nat_le 1 s.kept.fields.unblocks;
+    } ∷
     -- the file is present
     record { number = 37; status = fixed 0x6A82; kinds = ReadBinary ∷ []; holds = λ s. is_some (bytes_of_file s.kept (file_meant s)) } ∷
     -- the offset is at most the file's length
@@ -204,11 +327,27 @@ answer_rules =
     -- no question was answered with no point
     record { number = 52; status = fixed 0x6A80; kinds = MapNonce ∷ PerformKeyAgreement ∷ []; holds = λ s. not (list_any is_no_point s.answers) } ∷ []
 
+-- whether there is room for what is to be committed
+abbrev pub commit_rules : List RuleRow
+commit_rules =
+    -- where there is something to commit: the commit number is not too great
+    record {
+      number = 54;
+      status = fixed 0x6581;
+      kinds = MutualAuthentication ∷ ChangePin ∷ UnblockPin ∷ [];
+      holds = λ s. length (to_commit s.kind s) == 0 || nat_le s.kept.fields.number LAST_NUMBER;
+    } ∷ []
+
 -- whether what the terminal proves is right
 abbrev pub proof_rules : List RuleRow
 proof_rules =
     -- the token is right
-    record { number = 55; status = fixed 0x6300; kinds = MutualAuthentication ∷ []; holds = λ s. is_token (data_in s.command.body) s.state.phase } ∷ []
+    record {
+      number = 55;
+      status = λ s. token_status s.kept.fields (proves_pin s.state.phase);
+      kinds = MutualAuthentication ∷ [];
+      holds = λ s. is_token (data_in s.command.body) s.state.phase;
+    } ∷ []
 
 -- the rule concerns the kind
 abbrev pub concerns : List Kind → Option Kind → Bool

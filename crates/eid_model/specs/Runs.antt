@@ -10,7 +10,7 @@ use Rattle.eid_pace.specs.Selections.{chosen_by}
 use Rattle.eid_pace.specs.SelectionIn.{selection_in}
 use Rattle.std.specs.Result.{result_ok}
 use Rattle.eid_model.specs.declared.kind.Kind.{Kind}
-use Rattle.eid_model.specs.declared.kind.Kind.TheVariants.{SelectApplication, SelectMasterFile, SelectFile, ReadBinary, SelectPace, EncryptedNonce, MapNonce, PerformKeyAgreement, MutualAuthentication, NoStep}
+use Rattle.eid_model.specs.declared.kind.Kind.TheVariants.{SelectApplication, SelectMasterFile, SelectFile, ReadBinary, SelectPace, EncryptedNonce, MapNonce, PerformKeyAgreement, MutualAuthentication, ChangePin, UnblockPin, NoStep}
 use Rattle.eid_model.specs.Kinds.{kind_named, step_after, begins_run, goes_on_in_run}
 use Rattle.eid_model.specs.Moments.{PlainMoment, succeeded}
 use Rattle.eid_model.specs.Bodies.{data_in}
@@ -91,6 +91,8 @@ entered EncryptedNonce c answers before = with_nonce answers before
 entered MapNonce c answers before = with_base answers before
 entered PerformKeyAgreement c answers before = with_secret (data_in c.body) answers before
 entered MutualAuthentication c answers before = Idle
+entered ChangePin c answers before = Idle
+entered UnblockPin c answers before = Idle
 entered NoStep c answers before = Idle
 
 abbrev pub phase : List Step → Phase

@@ -8,7 +8,7 @@ use Rattle.eid_pace.specs.Check.{done_by}
 use Rattle.eid_record.specs.Plain.{FullRecord}
 use Rattle.eid_sm.specs.Keys.{Keys, ChannelState}
 use Rattle.eid_model.specs.declared.kind.Kind.{Kind}
-use Rattle.eid_model.specs.declared.kind.Kind.TheVariants.{SelectApplication, SelectMasterFile, SelectFile, ReadBinary, SelectPace, EncryptedNonce, MapNonce, PerformKeyAgreement, MutualAuthentication, NoStep}
+use Rattle.eid_model.specs.declared.kind.Kind.TheVariants.{SelectApplication, SelectMasterFile, SelectFile, ReadBinary, SelectPace, EncryptedNonce, MapNonce, PerformKeyAgreement, MutualAuthentication, ChangePin, UnblockPin, NoStep}
 use Rattle.eid_model.specs.Kinds.{is_by_short, file_of_short, file_of_id}
 use Rattle.eid_model.specs.Moments.{PlainMoment, live}
 use Rattle.eid_model.specs.Runs.{kind_done, run, next, Phase, Idle, Chose, SentNonce, HasBase, HasSecret, phase}
@@ -28,6 +28,8 @@ selects EncryptedNonce = None
 selects MapNonce = None
 selects PerformKeyAgreement = None
 selects MutualAuthentication = None
+selects ChangePin = None
+selects UnblockPin = None
 selects NoStep = None
 
 -- two bytes as one number, big-endian
@@ -45,6 +47,8 @@ names EncryptedNonce c = None
 names MapNonce c = None
 names PerformKeyAgreement c = None
 names MutualAuthentication c = None
+names ChangePin c = None
+names UnblockPin c = None
 names NoStep c = None
 
 abbrev pub selection : Option Kind → Option Bool
@@ -83,13 +87,15 @@ pace_done EncryptedNonce phase = None
 pace_done MapNonce phase = None
 pace_done PerformKeyAgreement phase = None
 pace_done MutualAuthentication phase = done_with phase
+pace_done ChangePin phase = None
+pace_done UnblockPin phase = None
 pace_done NoStep phase = None
 
 abbrev pub pace_by : Option Kind → Phase → Option PlainDone
 pace_by None phase = None
 pace_by (Some kind) phase = pace_done kind phase
 
--- the PACE that the newest moment pace_completed
+-- the PACE that the newest moment completed
 abbrev pub pace_completed : PlainMoment → List PlainMoment → Option PlainDone
 pace_completed m before = pace_by (kind_of_moment m before) (phase (run before))
 
@@ -98,7 +104,7 @@ abbrev pub pace : List PlainMoment → Option PlainDone
 pace [] = None
 pace (m ∷ before) = option_or (pace_completed m before) (pace before)
 
--- the keys that the newest moment opened a channel with: those of the PACE that it pace_completed
+-- the keys that the newest moment opened a channel with: those of the PACE that it completed
 abbrev pub keys_of : PlainDone → Keys
 keys_of done = record { enc = done.enc; mac = done.mac }
 

@@ -19,6 +19,10 @@ pub enum Kind {
     PerformKeyAgreement,
     /// The fourth: the tokens are exchanged.
     MutualAuthentication,
+    /// RESET RETRY COUNTER with a new PIN.
+    ChangePin,
+    /// RESET RETRY COUNTER without one: the tries of the PIN are given back.
+    UnblockPin,
     /// A GENERAL AUTHENTICATE that is no step of a run.
     NoStep,
 }

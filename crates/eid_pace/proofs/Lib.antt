@@ -1,3 +1,4 @@
+pub mod Unasked
 pub mod Tokens
 pub mod Values
 pub mod Templates

@@ -2,7 +2,8 @@
 use Rattle.std.specs.Prelude.{◌≡◌, ℕ, ◌==◌, List, [], ◌∷◌, ◌++◌, length, Option, Some, None, Result, Ok, Err, if◌then◌else◌}
 use Rattle.eid_bits.specs.Identifiers.{known_bytes}
 use Rattle.eid_bits.specs.declared.identifier.Known.TheVariants.{AtTemplate}
-use Rattle.eid_record.specs.declared.fields.Password.TheVariants.{Can}
+use Rattle.eid_record.specs.declared.fields.Password.{Password}
+use Rattle.eid_record.specs.declared.fields.Password.TheVariants.{Can, Pin, Puk}
 use Rattle.eid_tlv.specs.Objects.{object}
 use Rattle.eid_tlv.specs.Lists.{HasValues}
 use Rattle.eid_pace.specs.Protocols.{protocol_bytes}
@@ -31,10 +32,20 @@ pub record IsPaceSelection (body : List ℕ) (selection : PlainSelection) : Type
   pub reference : HasValues 0x83 ((selection.reference ∷ []) ∷ []) body
   pub template : HasTemplate body selection.template
 
--- the state after it, or the rule that failed; so far 2, the CAN, is the one reference with a password
+-- the password that a reference names: 2 the CAN, 3 the PIN, 4 the PUK
+abbrev pub password_named : ℕ → Option Password
+password_named reference =
+    if reference == 2 then Some Can
+    else if reference == 3 then Some Pin
+    else if reference == 4 then Some Puk
+    else None
+
+abbrev pub chosen_with : PlainSelection → Option Password → Result PlainChoice ℕ
+chosen_with selection None = Err password_rule
+chosen_with selection (Some password) =
+    Ok (record { protocol = selection.protocol; password = password; template = selection.template })
+
+-- the state after it, or the rule that failed
 abbrev pub chosen_by : Option PlainSelection → Result PlainChoice ℕ
 chosen_by None = Err form_rule
-chosen_by (Some selection) =
-    if selection.reference == 2
-    then Ok (record { protocol = selection.protocol; password = Can; template = selection.template })
-    else Err password_rule
+chosen_by (Some selection) = chosen_with selection (password_named selection.reference)

@@ -39,6 +39,13 @@ impl Agreed {
     ghost use Rattle.eid_pace.specs.Check.{IsPaid, check_given};
     ghost use Rattle.eid_pace.specs.View.{agreed_view, done_view, given};
 
+    /// The password that was chosen.
+    pub fn password(&self) -> Password
+        ensures { result ≡ (agreed_view self.now).choice.password }
+    {
+        self.choice.password
+    }
+
     /// The last step: compares the terminal's token, and gives the chip's, as it is sent. Rule 55 is that
     /// the token is wrong. With the PIN a try must have been paid before; with another password `paid` is
     /// not looked at.

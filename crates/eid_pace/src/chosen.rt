@@ -1,3 +1,6 @@
+ghost use Rattle.std.specs.Prelude.{◌≡◌};
+ghost use Rattle.eid_pace.specs.Selections.{password_named};
+
 use crate::choice::Choice;
 use crate::keys::encrypted_nonce;
 use crate::nonce_sent::NonceSent;
@@ -5,11 +8,25 @@ use crate::rules::{BODY_FORM, FAULT, NO_PASSWORD};
 use crate::selection::read_selection;
 use eid_base::Rule;
 use eid_copro::Coprocessor;
-use eid_password::digits;
+use eid_password::{digits, may_start};
 use eid_record::{Password, Record};
 
-/// The reference of the CAN.
+/// The references of the passwords (BSI TR-03110-3).
 const CAN: u8 = 2;
+const PIN: u8 = 3;
+const PUK: u8 = 4;
+
+/// The password that a reference names.
+fn password_named(reference: u8) -> Option<Password>
+    ensures { result ≡ password_named reference }
+{
+    match reference {
+        CAN => Some(Password::Can),
+        PIN => Some(Password::Pin),
+        PUK => Some(Password::Puk),
+        _ => None,
+    }
+}
 
 /// A password was chosen by MSE:Set AT for PACE.
 #[derive(Drop)]
@@ -18,9 +35,9 @@ pub struct Chosen {
 }
 
 impl Chosen {
-    ghost use Rattle.std.specs.Prelude.{◌≡◌, ◌≤◌};
+    ghost use Rattle.std.specs.Prelude.{◌≤◌};
     ghost use Rattle.eid_record.specs.View.{record_view};
-    ghost use Rattle.eid_password.specs.Passwords.{digits_of};
+    ghost use Rattle.eid_password.specs.Passwords.{digits_of, start_refusal};
     ghost use Rattle.eid_copro.specs.Asking.{EndsAs};
     ghost use Rattle.eid_pace.specs.NonceEnds.{nonce_asks, nonce_given};
     ghost use Rattle.eid_pace.specs.Selections.{chosen_by};
@@ -29,38 +46,51 @@ impl Chosen {
 
     /// Reads the body of MSE:Set AT for PACE: data objects, among them 80 with the protocol, 83 with the
     /// password's reference in one byte, and at most one 7F4C with the holder's template, in any order; other
-    /// tags are passed over. Rule 10 is a body of another form, rule 11 a reference that is not the CAN's.
+    /// tags are passed over. Rule 10 is a body of another form, rule 11 a reference that is not 2 (CAN), 3 (PIN)
+    /// or 4 (PUK).
     pub fn select(body: &[u8]) -> Result<Chosen, Rule>
         ensures { selected result ≡ chosen_by (selection_in body.now) }
     {
         let Some(selection) = read_selection(body) else {
             return Err(BODY_FORM);
         };
-        if selection.reference != CAN {
+        let Some(password) = password_named(selection.reference) else {
             return Err(NO_PASSWORD);
-        }
+        };
         Ok(Chosen {
             choice: Choice {
                 protocol: selection.protocol,
-                password: Password::Can,
+                password,
                 template: selection.template,
             },
         })
     }
 
-    /// The first step: draws a nonce, and gives it encrypted under the password's key, as it is sent.
-    /// Rule 50 is a fault of the coprocessor. Whether the session's last PACE was with the CAN is not looked
-    /// at by a PACE with the CAN.
+    /// The password that was chosen.
+    pub fn password(&self) -> Password
+        ensures { result ≡ (chosen_view self.now).password }
+    {
+        self.choice.password
+    }
+
+    /// The first step: draws a nonce, and gives it encrypted under the password's key, as it is sent. `by_can` says
+    /// that the session's last PACE was with the CAN. The rules 15, 16 and 17 are those of `may_start`, rule 50 is a
+    /// fault of the coprocessor.
     pub fn send_nonce<C: Coprocessor>(
         self,
         kept: &Record,
-        _by_can: bool,
+        by_can: bool,
         copro: &mut C,
     ) -> Result<(NonceSent, [u8; 16]), Rule>
         requires { 1 ≤ (C.seen copro.old).spare }
-        ensures { let digits = digits_of (record_view kept.now) (chosen_view self).password in
-            EndsAs (C.seen copro.old) (C.seen copro.new) nonce_asks (nonce_given (chosen_view self) digits) (given nonce_sent_view result) }
+        ensures { let choice = chosen_view self in
+            let refusal = start_refusal (record_view kept.now) choice.password by_can in
+            let digits = digits_of (record_view kept.now) choice.password in
+            EndsAs (C.seen copro.old) (C.seen copro.new) (nonce_asks refusal) (nonce_given choice digits refusal) (given nonce_sent_view result) }
     {
+        if let Err(rule) = may_start(kept, self.choice.password, by_can) {
+            return Err(rule);
+        }
         let Ok(nonce) = copro.nonce() else {
             return Err(FAULT);
         };

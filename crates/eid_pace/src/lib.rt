@@ -1,5 +1,5 @@
 //! PACE, the chip's side (BSI TR-03110-2 and TR-03110-3, generic mapping): a selection and four steps,
-//! each of which consumes the state that the step before it left. So far the password is the CAN.
+//! each of which consumes the state that the step before it left.
 #![tactic(auto)]
 
 mod agreed;

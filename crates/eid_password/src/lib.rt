@@ -2,5 +2,6 @@
 #![tactic(auto)]
 
 mod passwords;
+pub mod rules;
 
-pub use passwords::digits;
+pub use passwords::{digits, may_start, select_status};
