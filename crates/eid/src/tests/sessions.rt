@@ -11,25 +11,57 @@ const RUN: &str = "run image script 0";
 
 const REPLAY: &str = "replay image script answers";
 
-/// PACE with the CAN, from its selection to the tokens, by the model coprocessor from 0.
+// PACE, from its selection to the tokens, by the model coprocessor from 0: what is sent with each password, and in the
+// steps with all of them.
 #[rattlefmt::skip]
-const STEPS: [&str; 5] = [
-    "apdu 0022c1a424800a04007f000702020402028301027f4c12060904007f00070301020253050000009807\n",
-    "apdu 10860000027c0000\n",
-    "apdu 10860000457c43814104000000000000000000000000000000000000000000000000e3e10338a6bccd8b000000000000000000000000000000000000000000000000000000000000000000\n",
-    "apdu 10860000457c438341040000000000000000000000000000000000000000000000004743b10dccc908a7000000000000000000000000000000000000000000000000000000000000000000\n",
-    "apdu 008600000c7c0a8508b5507fac391ab3fd00\n",
-];
+const CHOOSE_CAN: &str = "apdu 0022c1a424800a04007f000702020402028301027f4c12060904007f00070301020253050000009807\n";
 
-/// The lines of the trace with the rule and the answer of each step.
 #[rattlefmt::skip]
-const STEPS_TOLD: [&str; 5] = [
-    " rule 0\n answer 9000\n",
-    " rule 0\n answer 7c128010dd19df18f5215646bdf27199eee4adf39000\n",
-    " rule 0\n answer 7c438241040000000000000000000000000000000000000000000000006d300153a979d16700000000000000000000000000000000000000000000000000000000000000009000\n",
-    " rule 0\n answer 7c43844104000000000000000000000000000000000000000000000000ef5a4277298455b900000000000000000000000000000000000000000000000000000000000000009000\n",
-    " rule 0\n answer 7c1986081cd74679bd54f330870d444543564341415430303030319000\n",
-];
+const CHOOSE_PIN: &str = "apdu 0022c1a40f800a04007f00070202040202830103\n";
+
+#[rattlefmt::skip]
+const CHOOSE_PUK: &str = "apdu 0022c1a40f800a04007f00070202040202830104\n";
+
+#[rattlefmt::skip]
+const STEP_1: &str = "apdu 10860000027c0000\n";
+
+#[rattlefmt::skip]
+const STEP_2: &str = "apdu 10860000457c43814104000000000000000000000000000000000000000000000000e3e10338a6bccd8b000000000000000000000000000000000000000000000000000000000000000000\n";
+
+#[rattlefmt::skip]
+const STEP_3: &str = "apdu 10860000457c438341040000000000000000000000000000000000000000000000004743b10dccc908a7000000000000000000000000000000000000000000000000000000000000000000\n";
+
+#[rattlefmt::skip]
+const STEP_4: &str = "apdu 008600000c7c0a8508b5507fac391ab3fd00\n";
+
+// The lines of the trace with the rule and the answer of a command that is carried out without data, and of each step.
+#[rattlefmt::skip]
+const DONE: &str = " rule 0\n answer 9000\n";
+
+#[rattlefmt::skip]
+const STEP_1_WITH_CAN: &str = " rule 0\n answer 7c128010dd19df18f5215646bdf27199eee4adf39000\n";
+
+#[rattlefmt::skip]
+const STEP_1_WITH_PIN: &str = " rule 0\n answer 7c128010e9873198042a163854fe358741fa257f9000\n";
+
+#[rattlefmt::skip]
+const STEP_1_WITH_PUK: &str = " rule 0\n answer 7c1280103f065b0802d7636642753d4452ff3ef09000\n";
+
+#[rattlefmt::skip]
+const STEP_2_TOLD: &str = " rule 0\n answer 7c438241040000000000000000000000000000000000000000000000006d300153a979d16700000000000000000000000000000000000000000000000000000000000000009000\n";
+
+#[rattlefmt::skip]
+const STEP_3_TOLD: &str = " rule 0\n answer 7c43844104000000000000000000000000000000000000000000000000ef5a4277298455b900000000000000000000000000000000000000000000000000000000000000009000\n";
+
+#[rattlefmt::skip]
+const STEP_4_TOLD: &str = " rule 0\n answer 7c1986081cd74679bd54f330870d444543564341415430303030319000\n";
+
+/// PACE with the CAN.
+const STEPS: [&str; 5] = [CHOOSE_CAN, STEP_1, STEP_2, STEP_3, STEP_4];
+
+/// What its steps come to.
+#[rattlefmt::skip]
+const STEPS_TOLD: [&str; 5] = [DONE, STEP_1_WITH_CAN, STEP_2_TOLD, STEP_3_TOLD, STEP_4_TOLD];
 
 // Answers to the questions of the steps, and the second pair with the point that the terminal sends.
 #[rattlefmt::skip]
@@ -47,12 +79,175 @@ const PAIR_OF_THE_TERMINAL: &str = "pair 000000000000000000000000000000000000000
 #[rattlefmt::skip]
 const ACCESS_OF_100_BYTES: &str = "card_access = '31620000000000000000000000000000000000000000000000000000000000000000000000000000000000000000000000000000000000000000000000000000000000000000000000000000000000000000000000000000000000000000000000000000'\n";
 
+// PACE with the PIN 111111, twice, and the first two commands of a third one.
+#[rattlefmt::skip]
+const TWO_WRONG_PINS: &str = "apdu 0022c1a40f800a04007f00070202040202830103
+apdu 10860000027c0000
+apdu 10860000457c43814104000000000000000000000000000000000000000000000000e3e10338a6bccd8b000000000000000000000000000000000000000000000000000000000000000000
+apdu 10860000457c43834104000000000000000000000000000000000000000000000000cdd8dcd28f5f2205000000000000000000000000000000000000000000000000000000000000000000
+apdu 008600000c7c0a8508b5507fac391ab3fd00
+apdu 0022c1a40f800a04007f00070202040202830103
+apdu 10860000027c0000
+apdu 10860000457c43814104000000000000000000000000000000000000000000000000c6b02ba5bf79ecbf000000000000000000000000000000000000000000000000000000000000000000
+apdu 10860000457c43834104000000000000000000000000000000000000000000000000cb02d56e41cef34c000000000000000000000000000000000000000000000000000000000000000000
+apdu 008600000c7c0a850890f76db1e585942000
+apdu 0022c1a40f800a04007f00070202040202830103
+apdu 10860000027c0000
+";
+
+#[rattlefmt::skip]
+const TWO_WRONG_PINS_TOLD: &str = " rule 0
+ answer 9000
+ rule 0
+ answer 7c128010e9873198042a163854fe358741fa257f9000
+ rule 0
+ answer 7c438241040000000000000000000000000000000000000000000000006d300153a979d16700000000000000000000000000000000000000000000000000000000000000009000
+ rule 0
+ answer 7c43844104000000000000000000000000000000000000000000000000ef5a4277298455b900000000000000000000000000000000000000000000000000000000000000009000
+ rule 55
+ answer 63c2
+ rule 0
+ answer 63c2
+ rule 0
+ answer 7c1280104724cf84d427076d8fecf657a369c7619000
+ rule 0
+ answer 7c43824104000000000000000000000000000000000000000000000000fcb7aa8e3e7ab77d00000000000000000000000000000000000000000000000000000000000000009000
+ rule 0
+ answer 7c43844104000000000000000000000000000000000000000000000000e4953eb9f423a8e600000000000000000000000000000000000000000000000000000000000000009000
+ rule 55
+ answer 63c1
+ rule 0
+ answer 63c1
+ rule 17
+ answer 6985
+";
+
+// After these PACE with the CAN.
+#[rattlefmt::skip]
+const CAN_AFTER_THEM: &str = "apdu 0022c1a40f800a04007f00070202040202830102
+apdu 10860000027c0000
+apdu 10860000457c43814104000000000000000000000000000000000000000000000000572b9931e8d7bc4f000000000000000000000000000000000000000000000000000000000000000000
+apdu 10860000457c43834104000000000000000000000000000000000000000000000000ed823b17870c36f9000000000000000000000000000000000000000000000000000000000000000000
+apdu 008600000c7c0a850802e71ef51ee200cb00
+";
+
+#[rattlefmt::skip]
+const CAN_AFTER_THEM_TOLD: &str = " rule 0
+ answer 9000
+ rule 0
+ answer 7c128010570aa6df97913ffb830c65bf8e6b28d99000
+ rule 0
+ answer 7c438241040000000000000000000000000000000000000000000000001a674c08ae5c9df700000000000000000000000000000000000000000000000000000000000000009000
+ rule 0
+ answer 7c43844104000000000000000000000000000000000000000000000000982fd685080f4d4b00000000000000000000000000000000000000000000000000000000000000009000
+ rule 0
+ answer 7c1986085efa51589bda804b870d444543564341415430303030319000
+";
+
+// In its channel PACE with the PIN.
+#[rattlefmt::skip]
+const RIGHT_PIN: &str = "apdu 0c22c1a41d8711014c30364a3e7d7047c9a53a68699729818e0892663777aa95974600
+apdu 1c860000208711017320bb622c69f22713053481bc71e6ce9701008e083a2f9c7c5c37cf9400
+apdu 1c860000608751013a49e1098970389cf6b71b70ea331308f5b358b601d3d585590d0c17fc8782fa6c6ceafc47085c887bd15d84378868a266b31e6371320ab8728bf7416fa81abecaf6326a5d16442517e549bd3d40b20b9701008e08f758d8a760fafd3400
+apdu 1c8600006087510170ec26ed8bbd562cd971d906e00dd37d606dd964aabb4d562bb4907733560d61758c92f5987a731c26d4a3836d358784cc96e0229df14fd5abf2a776cf3fe8cd3b95150c9905854695fac997c0733d759701008e08ddc7a8453d63c53900
+apdu 0c86000020871101ebb17561bba2ca4acc7c547fe5bccf9e9701008e082637adcc240f3c8300
+";
+
+#[rattlefmt::skip]
+const RIGHT_PIN_TOLD: &str = " rule 0
+ answer 63c1
+ rule 0
+ answer 7c1280101379dba2f484f17279f1b7bb134942ca9000
+ rule 0
+ answer 7c438241040000000000000000000000000000000000000000000000004a0a85ef2463862700000000000000000000000000000000000000000000000000000000000000009000
+ rule 0
+ answer 7c438441040000000000000000000000000000000000000000000000004858cef658efb0c600000000000000000000000000000000000000000000000000000000000000009000
+ rule 0
+ answer 7c198608922bf6f7c98a1b0f870d444543564341415430303030319000
+";
+
+// Or PACE with the PIN 111111, the first two commands of another one, PACE with the PUK, and the unblocking.
+#[rattlefmt::skip]
+const WRONG_PIN_AND_PUK: &str = "apdu 0c22c1a41d8711014c30364a3e7d7047c9a53a68699729818e0892663777aa95974600
+apdu 1c860000208711017320bb622c69f22713053481bc71e6ce9701008e083a2f9c7c5c37cf9400
+apdu 1c860000608751013a49e1098970389cf6b71b70ea331308f5b358b601d3d585590d0c17fc8782fa6c6ceafc47085c887bd15d84378868a266b31e6371320ab8728bf7416fa81abecaf6326a5d16442517e549bd3d40b20b9701008e08f758d8a760fafd3400
+apdu 1c8600006087510170ec26ed8bbd562cd971d906e00dd37de8299ef5eb828be8d3866c39cd9c7708faa2416a3e7132d160393d9c05908e73f27b940b2d795eebb6b052ee9f8c035ff01b0eefb0d52f65f05ec30473828b2f9701008e08aaac9946a046553400
+apdu 0c86000020871101ebb17561bba2ca4acc7c547fe5bccf9e9701008e082637adcc240f3c8300
+apdu 0c22c1a41d87110153a3e946c806112d69de4f200baffebd8e087a6f56c6e38155cd00
+apdu 1c8600002087110153cf32c006ea834d20de0c37bb02b9499701008e0859cfe3b4380e5be900
+apdu 0c22c1a41d87110170219bcd9c089487d89a520a5071abc48e08159d6b4241c2b91e00
+apdu 1c86000020871101dae64bd78681973fd41287edc4ef5ecb9701008e0825ff1d04745619b600
+apdu 1c86000060875101fe4d98afdae2e9dbb7393dbc92438f9a515cf2176331155b33271c8ec73bd7b747317cc6ac5ac67f25a4330b26329b100045354d1e9b66ea57666074e981e20e7feb632f96f448c7e6c937977dfce9929701008e0819b894e808cce15600
+apdu 1c8600006087510100ea947da3a5ec3b768bb02d9847b221b8e3c91e9deb5b8e6103a9842cc13c8d9aaa24e9c31d9331e16ac7cd2f579b471c70e8437266a771aff0a392281c87cbe661bb5c791bce7e8fa3155014b5dd3c9701008e085e7d8bddb9546bcb00
+apdu 0c860000208711019e2e2c559e52664ac1be832da5ce93109701008e0826e60a3c39b79e1900
+apdu 0c2c03030a8e08dfe95e71a7aed3da00
+";
+
+#[rattlefmt::skip]
+const WRONG_PIN_AND_PUK_TOLD: &str = " rule 0
+ answer 63c1
+ rule 0
+ answer 7c1280101379dba2f484f17279f1b7bb134942ca9000
+ rule 0
+ answer 7c438241040000000000000000000000000000000000000000000000004a0a85ef2463862700000000000000000000000000000000000000000000000000000000000000009000
+ rule 0
+ answer 7c438441040000000000000000000000000000000000000000000000004858cef658efb0c600000000000000000000000000000000000000000000000000000000000000009000
+ rule 55
+ answer 63c0
+ rule 0
+ answer 63c0
+ rule 16
+ answer 6983
+ rule 0
+ answer 9000
+ rule 0
+ answer 7c12801080c038e6bd7228b28197736deea60f769000
+ rule 0
+ answer 7c4382410400000000000000000000000000000000000000000000000088fcf3be4d65e63b00000000000000000000000000000000000000000000000000000000000000009000
+ rule 0
+ answer 7c4384410400000000000000000000000000000000000000000000000094de1ef0c1c0e28900000000000000000000000000000000000000000000000000000000000000009000
+ rule 0
+ answer 7c1986088422a2020ee0d7d8870d444543564341415430303030319000
+ rule 0
+ answer 9000
+";
+
+// In the channel of STEP_4 the new PIN 654321, and PACE with it in a session of its own.
+#[rattlefmt::skip]
+const SET_PIN: &str = "apdu 0c2c02031d871101fe1ee7bae07d2a39ae0003d48bcde0e08e08e5bbd02f6bd37f3700\n";
+
+#[rattlefmt::skip]
+const NEW_PIN: &str = "on
+apdu 0022c1a40f800a04007f00070202040202830103
+apdu 10860000027c0000
+apdu 10860000457c43814104000000000000000000000000000000000000000000000000c6b02ba5bf79ecbf000000000000000000000000000000000000000000000000000000000000000000
+apdu 10860000457c43834104000000000000000000000000000000000000000000000000563ca950a629eaa6000000000000000000000000000000000000000000000000000000000000000000
+apdu 008600000c7c0a850890f76db1e585942000
+";
+
+#[rattlefmt::skip]
+const NEW_PIN_TOLD: &str = " rule 0
+ answer 9000
+ rule 0
+ answer 7c128010e3c41b20b16d01f4cf739555f6e91ecf9000
+ rule 0
+ answer 7c43824104000000000000000000000000000000000000000000000000fcb7aa8e3e7ab77d00000000000000000000000000000000000000000000000000000000000000009000
+ rule 0
+ answer 7c43844104000000000000000000000000000000000000000000000000e4953eb9f423a8e600000000000000000000000000000000000000000000000000000000000000009000
+ rule 0
+ answer 7c198608a4353bc9d04e5592870d444543564341415430303030319000
+";
+
+// The unblocking, in that channel.
+#[rattlefmt::skip]
+const UNBLOCK: &str = "apdu 0c2c03030a8e0832cb5e24c00b3c2400\n";
+
 /// What is sent behind a power on, and what it comes to.
 struct Session {
     /// What the row shows.
     shows: &'static str,
-    /// The line of the configuration with EF.CardAccess.
-    access: &'static str,
+    /// The last lines of the configuration: EF.CardAccess, and what is not as usual.
+    config: &'static str,
     /// The words.
     said: &'static str,
     /// The answers of a replay.
@@ -62,61 +257,127 @@ struct Session {
     /// How many of these are carried out as in `STEPS_TOLD`.
     carried_out: usize,
     /// The lines of the script behind these steps.
-    more: &'static str,
+    more: &'static [&'static str],
     /// The lines of the trace with the rules and the answers of the other commands.
-    told: &'static str,
+    told: &'static [&'static str],
+    /// Whether the image stays as it was.
+    kept: bool,
 }
 
 /// The sessions, by what they show.
 #[rattlefmt::skip]
-const SESSIONS: [Session; 8] = [
+const SESSIONS: [Session; 16] = [
     Session {
-        shows: "after power on SELECT of the application is carried out", access: ACCESS, said: RUN, answers: &[],
+        shows: "after power on SELECT of the application is carried out", config: ACCESS, said: RUN, answers: &[],
         sent: 0, carried_out: 0,
-        more: "apdu 00A4040C09E80704007F00070302\n",
-        told: " rule 0\n answer 9000\n",
+        more: &["apdu 00A4040C09E80704007F00070302\n"],
+        told: &[" rule 0\n answer 9000\n"],
+        kept: true,
     },
     Session {
-        shows: "a READ BINARY gives what is left of 100 bytes", access: ACCESS_OF_100_BYTES, said: RUN, answers: &[],
+        shows: "a READ BINARY gives what is left of 100 bytes", config: ACCESS_OF_100_BYTES, said: RUN, answers: &[],
         sent: 0, carried_out: 0,
-        more: "apdu 00B09C6400\napdu 00B09C6500\napdu 00B09C00C8\n",
-        told: " rule 0\n answer 9000\n rule 38\n answer 6b00\n rule 0\n answer 316200000000000000000000000000000000000000000000000000000000000000000000000000000000000000000000000000000000000000000000000000000000000000000000000000000000000000000000000000000000000000000000000000006282\n",
+        more: &["apdu 00B09C6400\napdu 00B09C6500\napdu 00B09C00C8\n"],
+        told: &[" rule 0\n answer 9000\n rule 38\n answer 6b00\n rule 0\n answer 316200000000000000000000000000000000000000000000000000000000000000000000000000000000000000000000000000000000000000000000000000000000000000000000000000000000000000000000000000000000000000000000000000006282\n"],
+        kept: true,
     },
     Session {
-        shows: "each refusal has its rule and status", access: ACCESS, said: RUN, answers: &[],
+        shows: "each refusal has its rule and status", config: ACCESS, said: RUN, answers: &[],
         sent: 0, carried_out: 0,
-        more: "apdu 00B0\napdu 00FF0000\napdu 00A4000000\napdu 00A4040C00\napdu 00A4040C02A000\napdu 00B0000000\n",
-        told: " rule 1\n answer 6700\n rule 5\n answer 6d00\n rule 6\n answer 6a86\n rule 10\n answer 6a80\n rule 13\n answer 6a82\n rule 12\n answer 6986\n",
+        more: &["apdu 00B0\napdu 00FF0000\napdu 00A4000000\napdu 00A4040C00\napdu 00A4040C02A000\napdu 00B0000000\n"],
+        told: &[" rule 1\n answer 6700\n rule 5\n answer 6d00\n rule 6\n answer 6a86\n rule 10\n answer 6a80\n rule 13\n answer 6a82\n rule 12\n answer 6986\n"],
+        kept: true,
     },
     Session {
-        shows: "PACE with the CAN opens a channel, in which a command counts once", access: ACCESS, said: RUN, answers: &[],
+        shows: "PACE with the CAN opens a channel, in which a command counts once", config: ACCESS, said: RUN, answers: &[],
         sent: 5, carried_out: 5,
-        more: "apdu 0cb09d000d9701008e08b31aafca60fc90af00\napdu 0cb084000d9701008e0818b9dc8abcd582de00\napdu 0cb084000d9701008e0818b9dc8abcd582de00\napdu 0cb09d000d9701008e08ed9c031c3d8e290200\n",
-        told: " rule 0\n answer 30009000\n rule 26\n answer 6982\n rule 3\n answer 6988\n rule 4\n answer 6e00\n",
+        more: &["apdu 0cb09d000d9701008e08b31aafca60fc90af00\napdu 0cb084000d9701008e0818b9dc8abcd582de00\napdu 0cb084000d9701008e0818b9dc8abcd582de00\napdu 0cb09d000d9701008e08ed9c031c3d8e290200\n"],
+        told: &[" rule 0\n answer 30009000\n rule 26\n answer 6982\n rule 3\n answer 6988\n rule 4\n answer 6e00\n"],
+        kept: true,
     },
     Session {
-        shows: "a missing answer is a fault, and the next step is none", access: ACCESS, said: REPLAY, answers: &[NONCE_ANSWER],
+        shows: "a missing answer is a fault, and the next step is none", config: ACCESS, said: REPLAY, answers: &[NONCE_ANSWER],
         sent: 3, carried_out: 2,
-        more: "apdu 10860000457c43814104000000000000000000000000000000000000000000000000e3e10338a6bccd8b000000000000000000000000000000000000000000000000000000000000000000\n",
-        told: " rule 50\n answer 6f00\n rule 9\n answer 6985\n",
+        more: &["apdu 10860000457c43814104000000000000000000000000000000000000000000000000e3e10338a6bccd8b000000000000000000000000000000000000000000000000000000000000000000\n"],
+        told: &[" rule 50\n answer 6f00\n rule 9\n answer 6985\n"],
+        kept: true,
     },
     Session {
-        shows: "the chip's point is not the terminal's", access: ACCESS, said: REPLAY, answers: &[NONCE_ANSWER, PAIR_ANSWER, MAP_ANSWER, PAIR_OF_THE_TERMINAL],
+        shows: "the chip's point is not the terminal's", config: ACCESS, said: REPLAY, answers: &[NONCE_ANSWER, PAIR_ANSWER, MAP_ANSWER, PAIR_OF_THE_TERMINAL],
         sent: 4, carried_out: 3,
-        more: "",
-        told: " rule 51\n answer 6300\n",
+        more: &[],
+        told: &[" rule 51\n answer 6300\n"],
+        kept: true,
     },
     Session {
-        shows: "a nonce that maps to no point is a wrong body", access: ACCESS, said: REPLAY, answers: &[NONCE_ANSWER, PAIR_ANSWER, "map none\n"],
+        shows: "a nonce that maps to no point is a wrong body", config: ACCESS, said: REPLAY, answers: &[NONCE_ANSWER, PAIR_ANSWER, "map none\n"],
         sent: 3, carried_out: 2,
-        more: "",
-        told: " rule 52\n answer 6a80\n",
+        more: &[],
+        told: &[" rule 52\n answer 6a80\n"],
+        kept: true,
     },
     Session {
-        shows: "the PIN cannot be chosen yet", access: ACCESS, said: RUN, answers: &[],
+        shows: "a password has the reference 02, 03 or 04", config: ACCESS, said: RUN, answers: &[],
         sent: 0, carried_out: 0,
-        more: "apdu 0022C1A40F800A04007F00070202040202830103\n",
-        told: " rule 11\n answer 6a88\n",
+        more: &["apdu 0022C1A40F800A04007F00070202040202830105\n"],
+        told: &[" rule 11\n answer 6a88\n"],
+        kept: true,
+    },
+    Session {
+        shows: "after two wrong PINs the last try needs the CAN, and the right PIN gives three again", config: ACCESS, said: RUN, answers: &[],
+        sent: 0, carried_out: 0,
+        more: &[TWO_WRONG_PINS, CAN_AFTER_THEM, RIGHT_PIN],
+        told: &[TWO_WRONG_PINS_TOLD, CAN_AFTER_THEM_TOLD, RIGHT_PIN_TOLD],
+        kept: false,
+    },
+    Session {
+        shows: "a third wrong PIN blocks the PIN, and the PUK unblocks it", config: ACCESS, said: RUN, answers: &[],
+        sent: 0, carried_out: 0,
+        more: &[TWO_WRONG_PINS, CAN_AFTER_THEM, WRONG_PIN_AND_PUK],
+        told: &[TWO_WRONG_PINS_TOLD, CAN_AFTER_THEM_TOLD, WRONG_PIN_AND_PUK_TOLD],
+        kept: false,
+    },
+    Session {
+        shows: "at the last commit number a right PIN is refused", config: "card_access = '3100'\nnumber = 4294967294\n", said: RUN, answers: &[],
+        sent: 0, carried_out: 0,
+        more: &[CHOOSE_PIN, STEP_1, STEP_2, STEP_3, STEP_4],
+        told: &[DONE, STEP_1_WITH_PIN, STEP_2_TOLD, STEP_3_TOLD, " rule 54\n answer 6581\n"],
+        kept: true,
+    },
+    Session {
+        shows: "at the last commit number PACE with the CAN is carried out", config: "card_access = '3100'\nnumber = 4294967294\n", said: RUN, answers: &[],
+        sent: 5, carried_out: 5,
+        more: &[],
+        told: &[],
+        kept: true,
+    },
+    Session {
+        shows: "an inactive PIN is told and refused", config: "card_access = '3100'\nactive = false\n", said: RUN, answers: &[],
+        sent: 0, carried_out: 0,
+        more: &[CHOOSE_PIN, STEP_1],
+        told: &[" rule 0\n answer 6283\n rule 15\n answer 6984\n"],
+        kept: true,
+    },
+    Session {
+        shows: "after PACE with the PIN a new one is set", config: ACCESS, said: RUN, answers: &[],
+        sent: 0, carried_out: 0,
+        more: &[CHOOSE_PIN, STEP_1, STEP_2, STEP_3, STEP_4, SET_PIN, NEW_PIN],
+        told: &[DONE, STEP_1_WITH_PIN, STEP_2_TOLD, STEP_3_TOLD, STEP_4_TOLD, DONE, NEW_PIN_TOLD],
+        kept: false,
+    },
+    Session {
+        shows: "after PACE with the CAN no PIN is set", config: ACCESS, said: RUN, answers: &[],
+        sent: 5, carried_out: 5,
+        more: &[SET_PIN],
+        told: &[" rule 29\n answer 6982\n"],
+        kept: true,
+    },
+    Session {
+        shows: "without unblockings nothing is unblocked after PACE with the PUK", config: "card_access = '3100'\nunblocks = 0\n", said: RUN, answers: &[],
+        sent: 0, carried_out: 0,
+        more: &[CHOOSE_PUK, STEP_1, STEP_2, STEP_3, STEP_4, UNBLOCK],
+        told: &[DONE, STEP_1_WITH_PUK, STEP_2_TOLD, STEP_3_TOLD, STEP_4_TOLD, " rule 30\n answer 6983\n"],
+        kept: true,
     },
 ];
 
@@ -132,21 +393,23 @@ fn rules_and_answers(rt: &HostRuntime, trace: &[u8]) -> Result<Vec<u8>, AllocErr
     Ok(told)
 }
 
-/// The first of these pieces, and a last one.
+/// The first of these pieces, and the last ones.
 fn front(
     rt: &HostRuntime,
     pieces: &[&str],
     count: usize,
-    last: &str,
+    last: &[&str],
 ) -> Result<String, AllocError> {
     let mut text = joined(rt, &pieces[..pieces.len().min(count)])?;
-    text.push_str(last)?;
+    for piece in last {
+        text.push_str(piece)?;
+    }
     Ok(text)
 }
 
-/// Whether the commands have these rules and answers, and the image is left.
+/// Whether the commands have these rules and answers, and the image stays or not.
 fn is_so(rt: &HostRuntime, session: &Session) -> Result<bool, AllocError> {
-    let cells = image(rt, session.access)?;
+    let cells = image(rt, session.config)?;
     let sent = front(rt, &STEPS, session.sent, session.more)?;
     let script = joined(rt, &["on\n", sent.as_str()])?;
     let answers = joined(rt, session.answers)?;
@@ -162,7 +425,7 @@ fn is_so(rt: &HostRuntime, session: &Session) -> Result<bool, AllocError> {
     Ok(
         exit.status() == 0
             && rules_and_answers(rt, out.bytes())?.as_slice() == told.as_bytes()
-            && holds(&folder, "image", cells.as_slice()),
+            && holds(&folder, "image", cells.as_slice()) == session.kept,
     )
 }
 
