@@ -10,7 +10,7 @@ use Rattle.eid_store.specs.Stands.{stands}
 use Rattle.eid_pace.specs.States.{PlainDone}
 use Rattle.eid_sm.specs.Keys.{Keys, ChannelState, next_counter}
 use Rattle.eid_model.specs.declared.kind.Kind.{Kind}
-use Rattle.eid_model.specs.declared.kind.Kind.TheVariants.{SelectApplication, SelectMasterFile, SelectFile, ReadBinary, SelectPace, EncryptedNonce, MapNonce, PerformKeyAgreement, MutualAuthentication, NoStep}
+use Rattle.eid_model.specs.declared.kind.Kind.TheVariants.{SelectApplication, SelectMasterFile, SelectFile, ReadBinary, SelectPace, EncryptedNonce, MapNonce, PerformKeyAgreement, MutualAuthentication, ChangePin, UnblockPin, NoStep}
 use Rattle.eid_model.specs.Kinds.{kind_named, step_after}
 use Rattle.eid_model.specs.Moments.{PlainMoment, on, live, ends_session_by}
 use Rattle.eid_model.specs.Runs.{Step, Phase, Idle, continued, next, phase, entered, run, answers_of}
@@ -62,6 +62,8 @@ run_next EncryptedNonce c answers steps = refl
 run_next MapNonce c answers steps = refl
 run_next PerformKeyAgreement c answers steps = refl
 run_next MutualAuthentication c answers steps = refl
+run_next ChangePin c answers steps = refl
+run_next UnblockPin c answers steps = refl
 run_next NoStep c answers steps = refl
 
 run_phase : (kind : Kind) (c : PlainCommand) (answers : List Answer) (steps : List Step) → phase (continued (Some kind) (Some c) answers steps) ≡ entered kind c answers (phase steps)
@@ -75,6 +77,8 @@ run_phase EncryptedNonce c answers steps = refl
 run_phase MapNonce c answers steps = refl
 run_phase PerformKeyAgreement c answers steps = refl
 run_phase MutualAuthentication c answers steps = refl
+run_phase ChangePin c answers steps = refl
+run_phase UnblockPin c answers steps = refl
 run_phase NoStep c answers steps = refl
 
 -- ---- one moment more

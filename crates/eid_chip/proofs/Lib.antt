@@ -9,3 +9,4 @@ pub mod CarriedOut
 pub mod Selections
 pub mod ReadSteps
 pub mod Refusals
+pub mod Commits

@@ -17,10 +17,10 @@ use Rattle.eid_model.specs.declared.kind.Kind.{Kind}
 use Rattle.eid_model.specs.Kinds.{kind_named}
 use Rattle.eid_model.specs.Runs.{answers_of}
 use Rattle.eid_model.specs.Sessions.{State}
-use Rattle.eid_model.specs.Rules.{Incoming, OfCommand, plain_of, Situation, RuleRow, MAX_REQUEST, transport_rules, naming_rules, request_rules, kind_rules, answer_rules, proof_rules, concerns, first_failed}
-use Rattle.eid_model.specs.Answers.{Outcome, outcome, outcome_of, outcome_by, question, question_by, question_of, due, due_by, due_of, situation, kind_incoming, command_of, status_alone}
+use Rattle.eid_model.specs.Rules.{Incoming, OfCommand, plain_of, Situation, RuleRow, MAX_REQUEST, transport_rules, naming_rules, request_rules, kind_rules, answer_rules, commit_rules, proof_rules, concerns, first_failed, to_commit}
+use Rattle.eid_model.specs.Answers.{Outcome, outcome, outcome_of, outcome_by, question, question_by, question_of, due, due_by, situation, kind_incoming, command_of, status_alone}
 use Rattle.eid_model.specs.Legal.{AreAsked, IsReadAs}
-use Rattle.eid_model.proofs.Books.{nothing_due, nothing_due_by}
+use Rattle.eid_model.proofs.Books.{nothing_due_by}
 use Rattle.eid_chip.specs.Transitions.{state_answered, state_carried_out, state_refused}
 use Rattle.eid_chip.specs.declared.reaction.Reaction.{Reaction}
 use Rattle.eid_chip.specs.declared.reaction.Ending.{Ending}
@@ -30,9 +30,10 @@ use Rattle.eid_chip.specs.Commits.{Wrote}
 use Rattle.eid_chip.specs.Worlds.{World, world, Leaves}
 use Rattle.eid_chip.specs.Held.{held}
 use Rattle.eid_chip.specs.States.{state}
-use Rattle.eid_chip.specs.Steps.{PlainRefusal, refusal_by, known, with_command, outcome_seen, state_left, state_due, Stepped, Performed, IsAnsweredByRules, Reacts, IsEnding, IsNext, IsEndedByKind, IsEndedByRules, Responds, rule_of}
+use Rattle.eid_chip.specs.Steps.{PlainRefusal, refusal_by, known, with_command, outcome_seen, state_left, state_due, Stepped, Performed, IsAnsweredByKind, IsAnsweredByRules, Reacts, IsEnding, IsNext, IsEndedByKind, IsEndedByRules, Responds, rule_of}
+use Rattle.eid_chip.proofs.Commits.{unwritten}
 use Rattle.eid_chip.proofs.HeldFiles.{held_stands}
-use Rattle.eid_chip.proofs.Unasked.{not_asked}
+use Rattle.eid_pace.proofs.Unasked.{not_asked}
 
 passed_at : (b : Bool) (row : RuleRow) (rows more : List RuleRow) (s : Situation) → (refusal_by rows s ≡ None → first_failed (rows ++ more) s ≡ first_failed more s) → option_map {U = PlainRefusal} (λ r. record { rule = r.number; status = r.status s }) (if b then Some row else first_failed rows s) ≡ None → (if b then Some row else first_failed (rows ++ more) s) ≡ first_failed more s
 passed_at true row rows more s later e = absurd (cc)
@@ -92,7 +93,7 @@ kind_outcome : (kept : FullRecord) (old : State) (c : PlainCommand) (kind : Kind
     → outcome (with_command kept old c answers) ≡ outcome_of kind_rules (known kind kept old c answers)
 unfolding outcome
 kind_outcome kept old c kind answers named names requests =
-    ap (λ (f : Option RuleRow). outcome_by f (with_command kept old c answers)) (late_rules (answer_rules ++ proof_rules) kept old c answers names requests)
+    ap (λ (f : Option RuleRow). outcome_by f (with_command kept old c answers)) (late_rules (answer_rules ++ commit_rules ++ proof_rules) kept old c answers names requests)
     ∙ ap (λ (s : Situation). outcome_of kind_rules s) (known_so kept old c kind answers named)
 
 -- questions by two functions that agree
@@ -123,10 +124,10 @@ pub command_rule : (kept : FullRecord) (old : State) (c : PlainCommand) (answers
 unfolding outcome AreOthers
 command_rule kept old c answers o is =
     let s = with_command kept old c answers in
-    let later = naming_rules ++ request_rules ++ kind_rules ++ answer_rules ++ proof_rules in
+    let later = naming_rules ++ request_rules ++ kind_rules ++ answer_rules ++ commit_rules ++ proof_rules in
     let found : first_failed (transport_rules ++ later) s ≡ first_failed later s = passed transport_rules later s refl in
     ap (λ (x : Outcome). is_on_objects x.rule) (sym is) ∙ ap (λ (f : Option RuleRow). is_on_objects (outcome_by f s).rule) found
-    ∙ others_fail later s (refl, (refl, (refl, (refl, (refl, (refl, (refl, (refl, (refl, (refl, (refl, (refl, (refl, (refl, (refl, (refl, (refl, _)))))))))))))))))
+    ∙ others_fail later s (refl, (refl, (refl, (refl, (refl, (refl, (refl, (refl, (refl, (refl, (refl, (refl, (refl, (refl, (refl, (refl, (refl, (refl, (refl, (refl, (refl, (refl, (refl, _)))))))))))))))))))))))
 
 pub command_answered : (old : State) (c : PlainCommand) (asks : List Ask) (ending : Ending) (reply : PlainReply) (before after : World) → IsEndedByRules old (OfCommand c) asks ending reply before after → is_on_objects (rule_of ending) ≡ false
 command_answered old c asks (Answered r finished) reply before after did = command_rule (held before.cells) old c (answers_of asks) (outcome_seen r reply) did.ended.1
@@ -146,17 +147,19 @@ refused_state rule None c answers old e = refl
 refused_state rule (Some kind) c answers old e = if_not (rule == 0) (state_carried_out kind c answers old) (state_refused old) e
 
 -- a refusal puts no question, and is the answer
-pub refused_answers : (rows more later : List RuleRow) (kept : FullRecord) (old : State) (incoming : Incoming) (refused : PlainRefusal) (r : Reaction) (reply : PlainReply) → refusal_by rows (situation kept old incoming []) ≡ Some refused
+pub refused_answers : (rows more most later : List RuleRow) (kept : FullRecord) (old : State) (incoming : Incoming) (refused : PlainRefusal) (r : Reaction) (reply : PlainReply) → refusal_by rows (situation kept old incoming []) ≡ Some refused
     → question (situation kept old incoming []) ≡ (if is_none (first_failed (rows ++ more) (situation kept old incoming [])) then question_of (situation kept old incoming []).kind (situation kept old incoming []) else None)
+    → due (situation kept old incoming []) ≡ (if is_none (first_failed (rows ++ most) (situation kept old incoming [])) then to_commit (situation kept old incoming []).kind (situation kept old incoming []) else [])
     → outcome (situation kept old incoming []) ≡ outcome_by (first_failed (rows ++ later) (situation kept old incoming [])) (situation kept old incoming [])
     → (refused.rule == 0) ≡ false → r.rule.0 ≡ refused.rule → reply ≡ status_alone refused.status
     → state_left r old.channel ≡ state_due refused.rule (state_refused old) → IsAnsweredByRules kept old incoming [] r reply
-refused_answers rows more later kept old incoming refused r reply fails asks ends is_one rule answered left =
+refused_answers rows more most later kept old incoming refused r reply fails asks dues ends is_one rule answered left =
     let s = situation kept old incoming [] in
     let same : refused_so refused ≡ outcome_seen r reply = rw (rule, answered) refl in
     record {
       asked = asks ∙ if_not (is_none (first_failed (rows ++ more) s)) (question_of s.kind s) None (some_failed rows more s refused fails);
       ended = ends ∙ failed rows later s refused fails ∙ same;
+      undue = dues ∙ if_not (is_none (first_failed (rows ++ most) s)) (to_commit s.kind s) [] (some_failed rows most s refused fails);
       left = left ∙ ap (λ (n : ℕ). state_due n (state_refused old)) (sym rule)
           ∙ ap (λ (x : State). state_due r.rule.0 x) (sym (refused_state r.rule.0 (kind_incoming old incoming) (command_of incoming) [] old (ap (λ (n : ℕ). n == 0) rule ∙ is_one)));
     }
@@ -165,36 +168,40 @@ refused_answers rows more later kept old incoming refused r reply fails asks end
 pub name_refused : (kept : FullRecord) (old : State) (c : PlainCommand) (refused : PlainRefusal) (r : Reaction) (reply : PlainReply) → refusal_by naming_rules (with_command kept old c []) ≡ Some refused
     → (refused.rule == 0) ≡ false → r.rule.0 ≡ refused.rule → reply ≡ status_alone refused.status
     → state_left r old.channel ≡ state_due refused.rule (state_refused old) → IsAnsweredByRules kept old (OfCommand c) [] r reply
-unfolding question outcome
+unfolding question outcome due
 name_refused kept old c refused r reply fails is_one rule answered left =
     let s = with_command kept old c [] in
-    refused_answers naming_rules (request_rules ++ kind_rules ++ answer_rules) (request_rules ++ kind_rules ++ answer_rules ++ proof_rules) kept old (OfCommand c) refused r reply fails
+    refused_answers naming_rules (request_rules ++ kind_rules ++ answer_rules) (request_rules ++ kind_rules ++ answer_rules ++ commit_rules) (request_rules ++ kind_rules ++ answer_rules ++ commit_rules ++ proof_rules) kept old (OfCommand c) refused r reply fails
     (ap (λ (f : Option RuleRow). if is_none f then question_of s.kind s else None) (passed transport_rules (naming_rules ++ request_rules ++ kind_rules ++ answer_rules) s refl))
-    (ap (λ (f : Option RuleRow). outcome_by f s) (passed transport_rules (naming_rules ++ request_rules ++ kind_rules ++ answer_rules ++ proof_rules) s refl))
+    (ap (λ (f : Option RuleRow). if is_none f then to_commit s.kind s else []) (passed transport_rules (naming_rules ++ request_rules ++ kind_rules ++ answer_rules ++ commit_rules) s refl))
+    (ap (λ (f : Option RuleRow). outcome_by f s) (passed transport_rules (naming_rules ++ request_rules ++ kind_rules ++ answer_rules ++ commit_rules ++ proof_rules) s refl))
     is_one rule answered left
 
 -- a command of some kind in a request that is refused
 pub request_refused : (kept : FullRecord) (old : State) (c : PlainCommand) (refused : PlainRefusal) (r : Reaction) (reply : PlainReply) → refusal_by naming_rules (with_command kept old c []) ≡ None → refusal_by request_rules (with_command kept old c []) ≡ Some refused
     → (refused.rule == 0) ≡ false → r.rule.0 ≡ refused.rule → reply ≡ status_alone refused.status
     → state_left r old.channel ≡ state_due refused.rule (state_refused old) → IsAnsweredByRules kept old (OfCommand c) [] r reply
-unfolding question outcome
+unfolding question outcome due
 request_refused kept old c refused r reply names fails is_one rule answered left =
     let s = with_command kept old c [] in
-    refused_answers request_rules (kind_rules ++ answer_rules) (kind_rules ++ answer_rules ++ proof_rules) kept old (OfCommand c) refused r reply fails
+    refused_answers request_rules (kind_rules ++ answer_rules) (kind_rules ++ answer_rules ++ commit_rules) (kind_rules ++ answer_rules ++ commit_rules ++ proof_rules) kept old (OfCommand c) refused r reply fails
     (ap (λ (f : Option RuleRow). if is_none f then question_of s.kind s else None)
     (passed transport_rules (naming_rules ++ request_rules ++ kind_rules ++ answer_rules) s refl ∙ passed naming_rules (request_rules ++ kind_rules ++ answer_rules) s names))
+    (ap (λ (f : Option RuleRow). if is_none f then to_commit s.kind s else [])
+    (passed transport_rules (naming_rules ++ request_rules ++ kind_rules ++ answer_rules ++ commit_rules) s refl ∙ passed naming_rules (request_rules ++ kind_rules ++ answer_rules ++ commit_rules) s names))
     (ap (λ (f : Option RuleRow). outcome_by f s)
-    (passed transport_rules (naming_rules ++ request_rules ++ kind_rules ++ answer_rules ++ proof_rules) s refl ∙ passed naming_rules (request_rules ++ kind_rules ++ answer_rules ++ proof_rules) s names))
+    (passed transport_rules (naming_rules ++ request_rules ++ kind_rules ++ answer_rules ++ commit_rules ++ proof_rules) s refl ∙ passed naming_rules (request_rules ++ kind_rules ++ answer_rules ++ commit_rules ++ proof_rules) s names))
     is_one rule answered left
 
 -- bytes that are no command, or whose objects of secure messaging are missing or wrong
 pub transport_refused : (kept : FullRecord) (old : State) (incoming : Incoming) (refused : PlainRefusal) (r : Reaction) (reply : PlainReply) → refusal_by transport_rules (situation kept old incoming []) ≡ Some refused
     → (refused.rule == 0) ≡ false → r.rule.0 ≡ refused.rule → reply ≡ status_alone refused.status
     → state_left r old.channel ≡ state_due refused.rule (state_refused old) → IsAnsweredByRules kept old incoming [] r reply
-unfolding question outcome
+unfolding question outcome due
 transport_refused kept old incoming refused r reply fails is_one rule answered left =
-    refused_answers transport_rules (naming_rules ++ request_rules ++ kind_rules ++ answer_rules) (naming_rules ++ request_rules ++ kind_rules ++ answer_rules ++ proof_rules) kept old incoming refused r reply fails
-    refl refl is_one rule answered left
+    refused_answers transport_rules (naming_rules ++ request_rules ++ kind_rules ++ answer_rules) (naming_rules ++ request_rules ++ kind_rules ++ answer_rules ++ commit_rules)
+    (naming_rules ++ request_rules ++ kind_rules ++ answer_rules ++ commit_rules ++ proof_rules) kept old incoming refused r reply fails
+    refl refl refl is_one rule answered left
 
 -- a request that is too long, and one that is not
 pub long_request : (kept : FullRecord) (old : State) (c : PlainCommand) (answers : List Answer) → MAX_REQUEST < length c.body → refusal_by request_rules (with_command kept old c answers) ≡ Some (record { rule = 8; status = 0x6700 })
@@ -214,7 +221,7 @@ kind_due : (kept : FullRecord) (old : State) (c : PlainCommand) (kind : Kind) (a
     → due (with_command kept old c answers) ≡ due_by kind_rules (known kind kept old c answers)
 unfolding due
 kind_due kept old c kind answers named names requests =
-    ap (λ (f : Option RuleRow). if is_none f then due_of (with_command kept old c answers).kind (with_command kept old c answers) else []) (late_rules answer_rules kept old c answers names requests)
+    ap (λ (f : Option RuleRow). if is_none f then to_commit (with_command kept old c answers).kind (with_command kept old c answers) else []) (late_rules (answer_rules ++ commit_rules) kept old c answers names requests)
     ∙ ap (λ (s : Situation). due_by kind_rules s) (known_so kept old c kind answers named)
 
 -- a command of a known kind, in a request that can be answered, ends by the rules of its kind
@@ -235,12 +242,6 @@ ended_by_rules old c kind asks ending reply before after named names requests di
       leaves = subst (λ (l : List PlainEffect). Leaves l kept ending before after) effects did.leaves;
     }
 
--- a device that is not written to
-pub unwritten : (device : Device) → Wrote 0 device device
-unwritten device =
-    let planned : device.planned ≡ device.planned - 0 = omega arith in
-    record { writes = 0; least = omega arith; most = omega arith; device = ap (λ (n : ℕ). record device { planned = n }) planned; spared = λ told struck. omega (arith, struck.0, struck.1) }
-
 -- a command that commits nothing leaves all but the coprocessor as it was
 pub leaves_all : (effects : List PlainEffect) (r : Reaction) (before after : CoproSeen) (store : Store) (device : Device) (cells : List ℕ) → effects ≡ [] → stored.Fits store device cells
     → Leaves effects (held cells) (Answered r 0) (world before store device cells) (world after store device cells)
@@ -248,34 +249,70 @@ leaves_all effects r before after store device cells none fits =
     subst (λ (l : List PlainEffect). Leaves l (held cells) (Answered r 0) (world before store device cells) (world after store device cells)) (sym none)
     (fits, held_stands store device cells fits, unwritten device)
 
--- a command of a kind that commits nothing
-pub performed : (kind : Kind) (session : Session) (c : PlainCommand) (r : Reaction) (reply : PlainReply) (before after : CoproSeen) (store : Store) (device : Device) (cells : List ℕ) → stored.Fits store device cells
-    → Stepped before after kind (held cells) session c r reply → Performed kind session c (Answered r 0) reply (world before store device cells) (world after store device cells)
-performed kind session c r reply before after store device cells fits stepped = record {
-  asks = stepped.asks;
-  were_asked = stepped.were_asked;
-  ended = λ channel.
-      let told = stepped.tells channel in
-      let none = nothing_due_by kind_rules (known kind (held cells) (state session channel) c (answers_of stepped.asks)) in
-      record {
-        asked = told.asked;
-        ended = (sym (ap length none), told.ended);
-        next = told.left;
-        leaves = leaves_all _ r before after store device cells none fits;
-      };
-  layout = refl;
+-- a command of a known kind of which nothing is due
+pub ended_uncommitted : (kind : Kind) (old : State) (c : PlainCommand) (asks : List Ask) (r : Reaction) (reply : PlainReply) (before after : CoproSeen) (store : Store) (device : Device) (cells : List ℕ) → stored.Fits store device cells
+    → due_by kind_rules (known kind (held cells) old c (answers_of asks)) ≡ [] → IsAnsweredByKind kind (held cells) old c asks r reply
+    → IsEndedByKind kind old c asks (Answered r 0) reply (world before store device cells) (world after store device cells)
+ended_uncommitted kind old c asks r reply before after store device cells fits none told = record {
+  asked = told.asked;
+  ended = (sym (ap length none), told.ended);
+  next = told.left;
+  leaves = leaves_all _ r before after store device cells none fits;
 }
+
+-- a command of a kind that never commits
+pub settled : (kind is : Kind) (session : Session) (c : PlainCommand) (ending : Ending) (r : Reaction) (reply : PlainReply) (before after : CoproSeen) (store : Store) (device : Device) (cells : List ℕ)
+    → kind ≡ is → ((s : Situation) → to_commit (Some is) s ≡ []) → stored.Fits store device cells → ending ≡ Answered r 0
+    → Stepped before after is (held cells) session c r reply → Performed kind session c ending reply (world before store device cells) (world after store device cells)
+settled kind is session c ending r reply before after store device cells same commits fits ends stepped =
+    subst (λ (k : Kind). Performed k session c ending reply (world before store device cells) (world after store device cells)) (sym same)
+    (subst (λ (e : Ending). Performed is session c e reply (world before store device cells) (world after store device cells)) (sym ends) (record {
+      asks = stepped.asks;
+      were_asked = stepped.were_asked;
+      ended = λ channel.
+          ended_uncommitted is (state session channel) c stepped.asks r reply before after store device cells fits
+          (nothing_due_by kind_rules (known is (held cells) (state session channel) c (answers_of stepped.asks)) (commits _)) (stepped.tells channel);
+      layout = refl;
+    }))
+
+-- a command that puts no question, and of which nothing is due
+pub performed_unasked : (kind : Kind) (session : Session) (c : PlainCommand) (ending : Ending) (r : Reaction) (reply : PlainReply) (copro : CoproSeen) (store : Store) (device : Device) (cells : List ℕ) → stored.Fits store device cells → ending ≡ Answered r 0
+    → ((channel : Option ChannelState) → (due_by kind_rules (known kind (held cells) (state session channel) c []) ≡ []) × IsAnsweredByKind kind (held cells) (state session channel) c [] r reply)
+    → Performed kind session c ending reply (world copro store device cells) (world copro store device cells)
+performed_unasked kind session c ending r reply copro store device cells fits ends told =
+    subst (λ (e : Ending). Performed kind session c e reply (world copro store device cells) (world copro store device cells)) (sym ends) (record {
+      asks = [];
+      were_asked = not_asked copro;
+      ended = λ channel. let said = told channel in ended_uncommitted kind (state session channel) c [] r reply copro copro store device cells fits said.0 said.1;
+      layout = refl;
+    })
+
+-- a command that is refused by a rule of its kind
+pub kind_refused : (kind : Kind) (kept : FullRecord) (old : State) (c : PlainCommand) (refused : PlainRefusal) (r : Reaction) (reply : PlainReply) → refusal_by kind_rules (known kind kept old c []) ≡ Some refused
+    → (refused.rule == 0) ≡ false → r.rule.0 ≡ refused.rule → reply ≡ status_alone refused.status
+    → state_left r old.channel ≡ state_due refused.rule (state_refused old)
+    → (due_by kind_rules (known kind kept old c []) ≡ []) × IsAnsweredByKind kind kept old c [] r reply
+kind_refused kind kept old c refused r reply fails is_one rule answered left =
+    let s = known kind kept old c [] in
+    let same : refused_so refused ≡ outcome_seen r reply = rw (rule, answered) refl in (
+      if_not (is_none (first_failed (kind_rules ++ answer_rules ++ commit_rules) s)) (to_commit s.kind s) [] (some_failed kind_rules (answer_rules ++ commit_rules) s refused fails),
+      record {
+        asked = if_not (is_none (first_failed (kind_rules ++ answer_rules) s)) (question_of s.kind s) None (some_failed kind_rules answer_rules s refused fails);
+        ended = failed kind_rules (answer_rules ++ commit_rules ++ proof_rules) s refused fails ∙ same;
+        left = left ∙ ap (λ (n : ℕ). state_due n (state_refused old)) (sym rule)
+            ∙ ap (λ (x : State). state_due r.rule.0 x) (sym (refused_state r.rule.0 (Some kind) c [] old (ap (λ (n : ℕ). n == 0) rule ∙ is_one)));
+      },
+    )
 
 -- a refusal before the kind is known
 pub refused_ends : (old : State) (incoming : Incoming) (r : Reaction) (reply : PlainReply) (copro : CoproSeen) (store : Store) (device : Device) (cells : List ℕ) → stored.Fits store device cells
     → IsAnsweredByRules (held cells) old incoming [] r reply → IsEndedByRules old incoming [] (Answered r 0) reply (world copro store device cells) (world copro store device cells)
 refused_ends old incoming r reply copro store device cells fits answers =
-    let none = nothing_due (situation (held cells) old incoming []) in
     record {
       asked = answers.asked;
-      ended = (sym (ap length none), answers.ended);
+      ended = (sym (ap length answers.undue), answers.ended);
       next = answers.left;
-      leaves = leaves_all _ r copro copro store device cells none fits;
+      leaves = leaves_all _ r copro copro store device cells answers.undue fits;
     }
 
 -- and so a command that is refused
@@ -304,4 +341,17 @@ refused_responds incoming session channel bytes plain ending r reply copro store
   ended = subst (λ (e : Ending). IsEndedByRules (state session channel) incoming [] e reply (world copro store device cells) (world copro store device cells)) (sym ends)
       (refused_ends (state session channel) incoming r reply copro store device cells fits answers);
   layout = refl;
+}
+
+-- how a command of a known kind ended that puts no question, by what is due and by the outcome
+pub ends_so : (kind : Kind) (old : State) (c : PlainCommand) (effects : List PlainEffect) (o : Outcome) (ending : Ending) (reply : PlainReply) (before after : World)
+    → question_by kind_rules (known kind (held before.cells) old c []) ≡ None → due_by kind_rules (known kind (held before.cells) old c []) ≡ effects → outcome_of kind_rules (known kind (held before.cells) old c []) ≡ o
+    → IsEnding effects o ending reply → IsNext (λ rule. state_answered rule (Some kind) c [] old) ending old.channel → Leaves effects (held before.cells) ending before after
+    → IsEndedByKind kind old c [] ending reply before after
+ends_so kind old c effects o ending reply before after unasked due_is outcome_is ended next leaves = record {
+  asked = unasked;
+  ended = subst (λ (l : List PlainEffect). IsEnding l (outcome_of kind_rules (known kind (held before.cells) old c [])) ending reply) (sym due_is)
+      (subst (λ (x : Outcome). IsEnding effects x ending reply) (sym outcome_is) ended);
+  next = next;
+  leaves = subst (λ (l : List PlainEffect). Leaves l (held before.cells) ending before after) (sym due_is) leaves;
 }

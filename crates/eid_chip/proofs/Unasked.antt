@@ -5,7 +5,7 @@ use Rattle.eid_apdu.specs.Command.{PlainCommand}
 use Rattle.eid_apdu.specs.Answer.{PlainReply}
 use Rattle.eid_copro.specs.Seen.{CoproSeen}
 use Rattle.eid_record.specs.Plain.{FullRecord}
-use Rattle.eid_copro.specs.Asking.{WereAsked}
+use Rattle.eid_pace.proofs.Unasked.{not_asked}
 use Rattle.eid_sm.specs.Keys.{ChannelState}
 use Rattle.eid_model.specs.declared.kind.Kind.{Kind}
 use Rattle.eid_model.specs.declared.kind.Kind.TheVariants.{NoStep}
@@ -17,23 +17,10 @@ use Rattle.eid_chip.specs.declared.reaction.Reaction.{Reaction}
 use Rattle.eid_chip.specs.States.{state}
 use Rattle.eid_chip.specs.Steps.{IsAnsweredByKind, Stepped, state_left, state_due}
 
--- a coprocessor that was not asked
-pub not_asked : (copro : CoproSeen) → WereAsked copro copro []
-not_asked copro = record {
-  logged = sym (append-nil copro.log);
-  spent = omega arith;
-  same_told = refl;
-  later = omega arith;
-  cause = λ met. absurd (cc);
-}
-
 -- the coprocessor stays as it is
-pub unasked : (copro : CoproSeen) (kind is : Kind) (kept : FullRecord) (session : Session) (c : PlainCommand) (r : Reaction) (reply : PlainReply) → kind ≡ is → ((channel : Option ChannelState) → IsAnsweredByKind is kept (state session channel) c [] r reply) → Stepped copro copro kind kept session c r reply
-unasked copro kind is kept session c r reply same tells = record {
-  asks = [];
-  were_asked = not_asked copro;
-  tells = λ channel. subst (λ (k : Kind). IsAnsweredByKind k kept (state session channel) c [] r reply) (sym same) (tells channel);
-}
+pub unasked : (copro : CoproSeen) (kind : Kind) (kept : FullRecord) (session : Session) (c : PlainCommand) (r : Reaction) (reply : PlainReply)
+    → ((channel : Option ChannelState) → IsAnsweredByKind kind kept (state session channel) c [] r reply) → Stepped copro copro kind kept session c r reply
+unasked copro kind kept session c r reply tells = record { asks = []; were_asked = not_asked copro; tells = tells }
 
 -- a GENERAL AUTHENTICATE that the run has not come to is refused
 pub no_step : (kept : FullRecord) (old : State) (c : PlainCommand) (r : Reaction) (reply : PlainReply) → r.rule.0 ≡ 9 → reply ≡ status_alone 0x6985 → state_left r old.channel ≡ state_due 9 (state_refused old) → IsAnsweredByKind NoStep kept old c [] r reply

@@ -1,7 +1,7 @@
-pub mod Passwords
 pub mod Fits
 pub mod Held
 pub mod States
+pub mod Tries
 pub mod Steps
 pub mod Transitions
 pub mod Commits

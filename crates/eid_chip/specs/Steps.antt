@@ -1,7 +1,7 @@
 -- Inside: cited by private contracts alone.
 -- What one step of the chip promises: the questions that it puts, the outcome by the rules, and what the session is
 -- after it.
-use Rattle.std.specs.Prelude.{◌≡◌, ℕ, ◌<◌, ◌==◌, ◌||◌, List, [], length, Option, Some, None, option_map, if◌then◌else◌}
+use Rattle.std.specs.Prelude.{◌≡◌, ℕ, ◌<◌, ◌==◌, ◌||◌, true, false, List, [], ◌∷◌, ◌++◌, length, Option, Some, None, option_map, if◌then◌else◌}
 use Rattle.std.specs.Option.{option_or}
 use Rattle.eid_apdu.specs.Command.{PlainCommand}
 use Rattle.eid_apdu.specs.Answer.{PlainReply, spelled}
@@ -10,17 +10,25 @@ use Rattle.eid_copro.specs.declared.ask.Ask.{Ask}
 use Rattle.eid_copro.specs.declared.ask.Answer.{Answer}
 use Rattle.eid_record.specs.Plain.{FullRecord, PlainEffect}
 use Rattle.eid_copro.specs.Asking.{WereAsked}
+use Rattle.eid_password.specs.Passwords.{active_rule, try_rule, resumed_rule}
+use Rattle.eid_pace.specs.Rules.{fault_rule}
 use Rattle.eid_sm.specs.Keys.{ChannelState, advanced, next_counter}
 use Rattle.eid_sm.specs.Replies.{sealed}
 use Rattle.eid_model.specs.declared.kind.Kind.{Kind}
 use Rattle.eid_model.specs.Moments.{ends_session_by}
 use Rattle.eid_model.specs.Runs.{answers_of}
-use Rattle.eid_model.specs.Sessions.{State, fresh}
-use Rattle.eid_model.specs.Rules.{Incoming, OfCommand, plain_of, Situation, RuleRow, kind_rules, first_failed}
-use Rattle.eid_model.specs.Answers.{Outcome, outcome, question, due, outcome_of, question_by, due_by, situation, kind_incoming, command_of}
+use Rattle.eid_model.specs.Sessions.{State, fresh, memory_of, keys_of, channel_after}
+use Rattle.eid_model.specs.Bodies.{data_in, holds_value}
+use Rattle.eid_model.specs.Runs as phases
+use Rattle.eid_model.specs.Rules.{Incoming, OfCommand, plain_of, Situation, RuleRow, kind_rules, answer_rules, proof_rules, committing, concerns, first_failed, to_commit}
+use Rattle.eid_model.specs.Answers.{Outcome, outcome, question, question_of, success_of, status_alone, due, outcome_of, question_by, due_by, situation, kind_incoming, command_of}
 use Rattle.eid_model.specs.Legal.{IsReadAs, AreAsked}
-use Rattle.eid_chip.specs.Transitions.{state_answered, two_messages_later}
+use Rattle.eid_chip.specs.Transitions.{state_answered, state_carried_out, two_messages_later, without_run}
 use Rattle.eid_chip.specs.declared.session.Session.{Session}
+use Rattle.eid_chip.specs.declared.session.Memory.{Memory}
+use Rattle.eid_chip.specs.declared.session.Run.TheVariants as runs
+use Rattle.eid_pace.specs.States.{PlainDone}
+use Rattle.eid_pace.specs.declared.agreed.Agreed.{Agreed}
 use Rattle.eid_chip.specs.States.{state}
 use Rattle.eid_chip.specs.declared.refusal.Refusal.{Refusal}
 use Rattle.eid_chip.specs.declared.reaction.Reaction.{Reaction}
@@ -37,6 +45,14 @@ pub record PlainRefusal : Type 0 where
 
 abbrev pub refusal : Refusal → PlainRefusal
 refusal r = record { rule = r.rule.0; status = r.status.0 }
+
+-- what the first step of PACE is refused with by a rule on the PIN, or by a fault
+abbrev pub start_refused : ℕ → PlainRefusal
+start_refused rule =
+    if rule == active_rule then record { rule = active_rule; status = 0x6984 }
+    else if rule == try_rule then record { rule = try_rule; status = 0x6983 }
+    else if rule == resumed_rule then record { rule = resumed_rule; status = 0x6985 }
+    else record { rule = fault_rule; status = 0x6F00 }
 
 -- the refusal by the first failed of these rules, or none
 abbrev pub refusal_by : List RuleRow → Situation → Option PlainRefusal
@@ -102,6 +118,37 @@ pub record IsEndedByKind (kind : Kind) (old : State) (c : PlainCommand) (asks : 
   pub next : IsNext (λ rule. state_answered rule (Some kind) c (answers_of asks) old) ending old.channel
   pub leaves : Leaves (due_by kind_rules (known kind (held before.cells) old c (answers_of asks))) (held before.cells) ending before after
 
+-- A command of a kind that commits one effect, puts no question, proves nothing, and answers no data: no rule before its
+-- commit fails.
+pub record CommitsOne (kind : Kind) (kept : FullRecord) (old : State) (c : PlainCommand) (effect : PlainEffect) : Type 0 where
+  pub passes : first_failed (kind_rules ++ answer_rules) (known kind kept old c []) ≡ None
+  pub committing : concerns committing (Some kind) ≡ true
+  pub commits : to_commit (Some kind) (known kind kept old c []) ≡ effect ∷ []
+  pub unasked : question_of (Some kind) (known kind kept old c []) ≡ None
+  pub proves : first_failed proof_rules (known kind kept old c []) ≡ None
+  pub answers : success_of kind (known kind kept old c []) ≡ status_alone 0x9000
+  pub leaves : state_carried_out kind c [] old ≡ record (without_run old) { channel = option_map two_messages_later old.channel }
+
+-- the terminal's token stands in this command
+pub record SendsToken (c : PlainCommand) (token : List ℕ) : Type 0 where
+  pub formed : holds_value 0x85 8 c.body ≡ true
+  pub is : token ≡ data_in c.body
+
+-- a session whose run has come to the tokens
+abbrev pub at_tokens : Agreed → Memory → Session
+at_tokens agreed memory = record { run = runs.Agreed agreed; memory = memory }
+
+-- the state after a PACE, in the channel that it opened
+abbrev pub state_with_pace : Memory → PlainDone → State
+state_with_pace old done = record {
+  next = None;
+  phase = phases.Idle;
+  selected = old.selected;
+  current = option_map (λ file. file.0) old.current;
+  pace = Some (memory_of done);
+  channel = Some (channel_after 0 (keys_of done));
+}
+
 -- and so in any channel, with the questions by which the coprocessor's log grew
 pub record Performed (kind : Kind) (session : Session) (c : PlainCommand) (ending : Ending) (reply : PlainReply) (before after : World) : Type 0 where
   pub asks : List Ask
@@ -128,6 +175,7 @@ pub record Reacts (session : Session) (c : PlainCommand) (ending : Ending) (repl
 pub record IsAnsweredByRules (kept : FullRecord) (old : State) (incoming : Incoming) (asks : List Ask) (reaction : Reaction) (reply : PlainReply) : Type 0 where
   pub asked : AreAsked (λ answers. question (situation kept old incoming answers)) [] asks
   pub ended : outcome (situation kept old incoming (answers_of asks)) ≡ outcome_seen reaction reply
+  pub undue : due (situation kept old incoming (answers_of asks)) ≡ []
   pub left : state_left reaction old.channel ≡ state_due reaction.rule.0 (state_answered reaction.rule.0 (kind_incoming old incoming) (command_of incoming)
       (answers_of asks) old)
 

@@ -16,8 +16,9 @@ ghost use Rattle.eid_model.specs.Kinds.{goes_on_in_run};
 ghost use Rattle.eid_model.specs.Legal.{silent};
 ghost use Rattle.eid_chip.specs.Held.{held};
 ghost use Rattle.eid_chip.specs.States.{next_of};
+ghost use Rattle.eid_chip.specs.Tries.{IsTryLeft};
 ghost use Rattle.eid_chip.specs.Worlds.{IsMounted, world};
-ghost use Rattle.eid_chip.specs.Steps.{Performed, Reacts, Responds, Stepped, message_in, rule_of, sent_next};
+ghost use Rattle.eid_chip.specs.Steps.{Performed, Reacts, Responds, message_in, rule_of, sent_next};
 ghost use Rattle.eid_chip.specs.Fits.{plain_in};
 
 use crate::ending::{ends_session, refused, uncommitted};
@@ -26,6 +27,7 @@ use crate::naming::kind_of;
 use crate::pace::{
     encrypted_nonce, map_nonce, mutual_authentication, perform_key_agreement, select_pace,
 };
+use crate::pin::{change_pin, unblock_pin};
 use crate::reaction::{Ending, Reaction, Response};
 use crate::refusal::{LONG_REQUEST, NO_COMMAND, NO_OBJECTS, NO_STEP, WRONG_OBJECTS};
 use crate::running::Running;
@@ -61,37 +63,6 @@ fn apart(c: &Command<'_>, body: &mut ArrayVec<u8, MAX_BODY>) -> Header
     }
 }
 
-/// Carries out a command of this kind, or refuses it by the first failed rule of its kind.
-fn carry_out<E: Eeprom, C: Coprocessor>(
-    kind: Kind,
-    session: Session,
-    store: &Store,
-    cells: &E,
-    copro: &mut C,
-    c: &Command<'_>,
-    reply: &mut Reply,
-) -> Reaction
-    requires fits { stored.Fits store.now (E.device cells.now) (E.cells cells.now) }
-    requires room { 2 ≤ (C.seen copro.old).spare }
-    requires turn { goes_on_in_run kind ≡ true → next_of session.run ≡ Some kind }
-    ensures answers { Stepped (C.seen copro.old) (C.seen copro.new) kind (held (E.cells cells.now)) session (plain_command c.now) result
-        (plain_reply reply.new) }
-    ensures small { array_vec_len reply.new.content ≤ 2048 }
-{
-    match kind {
-        Kind::SelectApplication => select_application(session, c, reply),
-        Kind::SelectMasterFile => select_master_file(session, c, reply),
-        Kind::SelectFile => select_file(session, c, reply),
-        Kind::ReadBinary => read_binary(session, store, cells, c, reply),
-        Kind::SelectPace => select_pace(session, c, reply),
-        Kind::EncryptedNonce => encrypted_nonce(session, store, cells, copro, c, reply),
-        Kind::MapNonce => map_nonce(session, copro, c, reply),
-        Kind::PerformKeyAgreement => perform_key_agreement(session, copro, c, reply),
-        Kind::MutualAuthentication => mutual_authentication(session, store, cells, c, reply),
-        Kind::NoStep => refused(NO_STEP, session, reply),
-    }
-}
-
 /// Carries out a command of this kind with its commits, or refuses it by the first failed rule of its kind.
 fn perform<E: Eeprom, C: Coprocessor>(
     kind: Kind,
@@ -105,12 +76,30 @@ fn perform<E: Eeprom, C: Coprocessor>(
     requires mounted { IsMounted (world (C.seen copro.old) store.old (E.device cells.old) (E.cells cells.old)) }
     requires room { 2 ≤ (C.seen copro.old).spare }
     requires turn { goes_on_in_run kind ≡ true → next_of session.run ≡ Some kind }
+    requires try_left { IsTryLeft session.run (stored.fields_of store.old) }
     ensures performed { Performed kind session (plain_command c.now) result (plain_reply reply.new)
         (world (C.seen copro.old) store.old (E.device cells.old) (E.cells cells.old))
         (world (C.seen copro.new) store.new (E.device cells.new) (E.cells cells.new)) }
     ensures small { array_vec_len reply.new.content ≤ 2048 }
 {
-    uncommitted(carry_out(kind, session, store, cells, copro, c, reply))
+    match kind {
+        Kind::SelectApplication => uncommitted(select_application(session, c, reply)),
+        Kind::SelectMasterFile => uncommitted(select_master_file(session, c, reply)),
+        Kind::SelectFile => uncommitted(select_file(session, c, reply)),
+        Kind::ReadBinary => uncommitted(read_binary(session, store, cells, c, reply)),
+        Kind::SelectPace => uncommitted(select_pace(session, store.kept(), c, reply)),
+        Kind::EncryptedNonce => {
+            uncommitted(encrypted_nonce(session, store, cells, copro, c, reply))
+        }
+        Kind::MapNonce => uncommitted(map_nonce(session, copro, c, reply)),
+        Kind::PerformKeyAgreement => {
+            uncommitted(perform_key_agreement(session, copro, c, reply))
+        }
+        Kind::MutualAuthentication => mutual_authentication(session, store, cells, c, reply),
+        Kind::ChangePin => change_pin(session, store, cells, c, reply),
+        Kind::UnblockPin => unblock_pin(session, store, cells, c, reply),
+        Kind::NoStep => uncommitted(refused(NO_STEP, session, reply)),
+    }
 }
 
 /// Carries a command out, or refuses it by the first failed rule.
@@ -124,6 +113,7 @@ fn react<E: Eeprom, C: Coprocessor>(
 ) -> Ending
     requires mounted { IsMounted (world (C.seen copro.old) store.old (E.device cells.old) (E.cells cells.old)) }
     requires room { 2 ≤ (C.seen copro.old).spare }
+    requires try_left { IsTryLeft session.run (stored.fields_of store.old) }
     ensures reacts { Reacts session (plain_command c.now) result (plain_reply reply.new)
         (world (C.seen copro.old) store.old (E.device cells.old) (E.cells cells.old))
         (world (C.seen copro.new) store.new (E.device cells.new) (E.cells cells.new)) }
@@ -160,6 +150,7 @@ fn respond<E: Eeprom, C: Coprocessor>(
 ) -> Response
     requires mounted { IsMounted (world (C.seen copro.old) store.old (E.device cells.old) (E.cells cells.old)) }
     requires room { 2 ≤ (C.seen copro.old).spare }
+    requires try_left { IsTryLeft session.run (stored.fields_of store.old) }
     ensures responds { Responds session None bytes.now (plain_in exchange.new result.plain) result.ending (plain_reply exchange.new.reply)
         (world (C.seen copro.old) store.old (E.device cells.old) (E.cells cells.old))
         (world (C.seen copro.new) store.new (E.device cells.new) (E.cells cells.new)) }
@@ -189,6 +180,7 @@ fn respond_in<E: Eeprom, C: Coprocessor>(
 ) -> Response
     requires mounted { IsMounted (world (C.seen copro.old) store.old (E.device cells.old) (E.cells cells.old)) }
     requires room { 2 ≤ (C.seen copro.old).spare }
+    requires try_left { IsTryLeft session.run (stored.fields_of store.old) }
     ensures responds { Responds session (Some channel.old) bytes.now (plain_in exchange.new result.plain) result.ending (plain_reply exchange.new.reply)
         (world (C.seen copro.old) store.old (E.device cells.old) (E.cells cells.old))
         (world (C.seen copro.new) store.new (E.device cells.new) (E.cells cells.new)) }
@@ -223,6 +215,7 @@ fn respond_any<E: Eeprom, C: Coprocessor>(
 ) -> Response
     requires mounted { IsMounted (world (C.seen copro.old) store.old (E.device cells.old) (E.cells cells.old)) }
     requires room { 2 ≤ (C.seen copro.old).spare }
+    requires try_left { IsTryLeft session.run (stored.fields_of store.old) }
     ensures responds { Responds session channel.old bytes.now (plain_in exchange.new result.plain) result.ending (plain_reply exchange.new.reply)
         (world (C.seen copro.old) store.old (E.device cells.old) (E.cells cells.old))
         (world (C.seen copro.new) store.new (E.device cells.new) (E.cells cells.new)) }
@@ -272,7 +265,8 @@ fn go_on(
     channel: Option<Channel>,
     exchange: &mut Exchange,
 ) -> Running
-    requires { array_vec_len exchange.old.reply.content ≤ 2048 }
+    requires small { array_vec_len exchange.old.reply.content ≤ 2048 }
+    requires try_left { IsTryLeft reaction.session.run (stored.fields_of store) }
     ensures sent { exchange.new.sent.items ≡ sent_next channel reaction.rule.0 (plain_reply exchange.old.reply) }
     ensures said { (exchange.new.reply ≡ exchange.old.reply) × (exchange.new.body ≡ exchange.old.body) }
     ensures session { (result.session ≡ reaction.session) × (result.store ≡ store) }

@@ -57,7 +57,15 @@ pub fn carried_out(session: Session, reply: &mut Reply) -> Reaction
     ensures did { (result.rule.0 ≡ 0) × (plain_reply reply.new ≡ status_alone 0x9000) × (result.session ≡ session) × (result.opened ≡ None) }
     ensures small { array_vec_len reply.new.content ≤ 2048 }
 {
-    put_status(Status(0x9000), reply);
+    carried_out_with(Status(0x9000), session, reply)
+}
+
+/// A command that is carried out, and answers this status.
+pub fn carried_out_with(status: Status, session: Session, reply: &mut Reply) -> Reaction
+    ensures did { (result.rule.0 ≡ 0) × (plain_reply reply.new ≡ status_alone status.0) × (result.session ≡ session) × (result.opened ≡ None) }
+    ensures small { array_vec_len reply.new.content ≤ 2048 }
+{
+    put_status(status, reply);
     answered(session)
 }
 
@@ -70,6 +78,22 @@ pub fn answered(session: Session) -> Reaction
         session,
         opened: None,
     }
+}
+
+/// How a command ends in whose commit the power was cut, after so many others. Nothing is answered.
+pub fn lost(finished: u8, reply: &mut Reply) -> Ending
+    ensures ending { result ≡ Ending.Lost finished }
+    ensures small { array_vec_len reply.new.content ≤ 2048 }
+{
+    reply.content.clear();
+    Ending::Lost { finished }
+}
+
+/// How a command ends after so many commits.
+pub fn committed(reaction: Reaction, finished: u8) -> Ending
+    ensures { result ≡ Ending.Answered reaction finished }
+{
+    Ending::Answered { reaction, finished }
 }
 
 /// How a command ends that commits nothing.

@@ -8,6 +8,7 @@ mod exchange;
 mod files;
 mod naming;
 mod pace;
+mod pin;
 mod reaction;
 mod refusal;
 mod running;

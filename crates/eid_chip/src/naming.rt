@@ -24,6 +24,19 @@ fn selection(c: &Command<'_>, run: &Run) -> Result<Kind, Refusal>
     }
 }
 
+/// The kind of a RESET RETRY COUNTER, by its parameters.
+fn pin_management(c: &Command<'_>, run: &Run) -> Result<Kind, Refusal>
+    requires { (c.now.cla ≡ 0x00) × (c.now.ins ≡ 0x2C) }
+    ensures kind { IsKindOf run.now (plain_command c.now) result }
+{
+    let _ = run;
+    match u16::from(c.p1) * 256 + u16::from(c.p2) {
+        0x0203 => Ok(Kind::ChangePin),
+        0x0303 => Ok(Kind::UnblockPin),
+        _ => Err(PARAMETERS),
+    }
+}
+
 /// The kind of a GENERAL AUTHENTICATE with class 00: the last step of PACE, where it is next.
 fn last_step(c: &Command<'_>, run: &Run) -> Kind
     requires { (c.now.cla ≡ 0x00) × (c.now.ins ≡ 0x86) × (c.now.p1 ≡ 0) × (c.now.p2 ≡ 0) }
@@ -89,6 +102,7 @@ fn plain_kind(c: &Command<'_>, run: &Run) -> Result<Kind, Refusal>
     match c.ins {
         0x22 if c.p1 == 0xc1 && c.p2 == 0xa4 => Ok(Kind::SelectPace),
         0x22 => Err(PARAMETERS),
+        0x2c => pin_management(c, run),
         0x86 => unchained_step(c, run),
         0xa4 => selection(c, run),
         0xb0 if c.p1 < 0xa0 => Ok(Kind::ReadBinary),

@@ -1,24 +1,33 @@
 //! PACE (BSI TR-03110-2 and TR-03110-3): its selection and its four steps.
-ghost use Rattle.std.specs.Prelude.{◌≡◌, ◌≤◌, ◌++◌, [], Option, Some};
+ghost use Rattle.std.specs.Prelude.{◌≡◌, ◌≤◌, ◌++◌, [], true, false, Option, Some};
 ghost use Rattle.arrayvec.specs.ArrayVec.{array_vec_len};
 ghost use Rattle.eid_apdu.specs.Answer.{plain_reply};
 ghost use Rattle.eid_record.specs.View.{record_view};
 ghost use Rattle.eid_tlv.specs.Objects.{object};
 ghost use Rattle.eid_model.specs.Answers.{data_alone, previous_name};
-ghost use Rattle.eid_apdu.specs.Command.{plain_command};
+ghost use Rattle.eid_apdu.specs.Command.{PlainCommand, plain_command};
 ghost use Rattle.eid_record.specs.Plain.{FullRecord};
 ghost use Rattle.eid_sm.specs.Keys.{ChannelState};
 ghost use Rattle.eid_store.specs.Store as stored;
 ghost use Rattle.eid_chip.specs.Held.{held};
-ghost use Rattle.eid_pace.specs.View.{done_view};
+ghost use Rattle.eid_copro.specs.Seen.{CoproSeen};
+ghost use Rattle.eid_password.specs.Passwords.{is_pin};
+ghost use Rattle.eid_pace.specs.View.{agreed_view, done_view};
+ghost use Rattle.eid_chip.specs.Commits.{SameLayout};
+ghost use Rattle.eid_chip.specs.Tries.{IsTryLeft};
+ghost use Rattle.eid_chip.specs.Worlds.{world};
 ghost use Rattle.eid_model.specs.Sessions.{channel_after, keys_of, memory_of};
 ghost use Rattle.eid_chip.specs.States.{memory, next_of, state};
-ghost use Rattle.eid_chip.specs.Steps.{Stepped, IsAnsweredByKind};
+ghost use Rattle.eid_chip.specs.Steps.{Stepped, IsAnsweredByKind, IsEndedByKind, Performed, SendsToken, at_tokens, state_left, state_with_pace};
 
 use crate::authentication::{append, is_no_data, point_in, put_data, put_in_data, token_in};
-use crate::ending::{answered, carried_out, refused};
-use crate::reaction::Reaction;
-use crate::refusal::{BODY_FORM, FAULT, NO_PASSWORD, NO_POINT, NO_STEP, SAME_POINT, WRONG_TOKEN};
+use crate::ending::{answered, carried_out_with, committed, lost, refused, uncommitted};
+use crate::pin::LAST_NUMBER;
+use crate::reaction::{Ending, Reaction};
+use crate::refusal::{
+    BODY_FORM, FAULT, NO_NUMBER, NO_PASSWORD, NO_POINT, NO_STEP, SAME_POINT, WRONG_TOKEN,
+    start_refusal, wrong_pin,
+};
 use crate::session::{LastPace, Memory, Run, Session, idle};
 use arrayvec::ArrayVec;
 use eid_apdu::{Command, Reply};
@@ -26,20 +35,23 @@ use eid_base::Rule;
 use eid_cells::Eeprom;
 use eid_copro::Coprocessor;
 use eid_model::Kind;
-use eid_pace::{Chosen, Done, rules};
-use eid_record::Record;
+use eid_pace::{Agreed, Chosen, Done, rules};
+use eid_password::select_status;
+use eid_record::{Effect, Password, Record};
 use eid_sm::Channel;
 use eid_store::Store;
 
-/// MSE:Set AT for PACE: a run begins with the password and the template that were chosen. Rule 10 is a body
-/// of another form, rule 11 a reference that is not the CAN's.
-pub fn select_pace(session: Session, c: &Command<'_>, reply: &mut Reply) -> Reaction
-    ensures told { (kept : FullRecord) (channel : Option ChannelState)
-        → IsAnsweredByKind Kind.SelectPace kept (state session channel) (plain_command c.now) [] result (plain_reply reply.new) }
+/// MSE:Set AT for PACE: a run begins with the password and the template that were chosen, and the status tells of the
+/// PIN that it is deactivated, or how many tries are left. Rule 10 is a body of another form, rule 11 a reference of no
+/// password.
+pub fn select_pace(session: Session, kept: &Record, c: &Command<'_>, reply: &mut Reply) -> Reaction
+    ensures told { (full : FullRecord) (channel : Option ChannelState) → full.fields ≡ record_view kept.now
+        → IsAnsweredByKind Kind.SelectPace full (state session channel) (plain_command c.now) [] result (plain_reply reply.new) }
     ensures small { array_vec_len reply.new.content ≤ 2048 }
 {
     match Chosen::select(c.body) {
-        Ok(chosen) => carried_out(
+        Ok(chosen) => carried_out_with(
+            select_status(kept, chosen.password()),
             Session {
                 run: Run::Chosen(chosen),
                 memory: session.memory,
@@ -51,8 +63,8 @@ pub fn select_pace(session: Session, c: &Command<'_>, reply: &mut Reply) -> Reac
     }
 }
 
-/// The first step: a nonce is drawn, and sent encrypted in 80. Rule 10 is a body other than the empty 7C,
-/// rule 50 a fault of the coprocessor.
+/// The first step: a nonce is drawn, and sent encrypted in 80. Rule 10 is a body other than the empty 7C; the rules 15,
+/// 16 and 17 are that the PIN is deactivated, blocked or suspended; rule 50 is a fault of the coprocessor.
 pub fn encrypted_nonce<E: Eeprom, C: Coprocessor>(
     session: Session,
     store: &Store,
@@ -76,7 +88,7 @@ pub fn encrypted_nonce<E: Eeprom, C: Coprocessor>(
     let Run::Chosen(chosen) = run else {
         return refused(NO_STEP, idle(memory), reply);
     };
-    match chosen.send_nonce(store.kept(), false, copro) {
+    match chosen.send_nonce(store.kept(), memory.was_with_can(), copro) {
         Ok(given) => {
             let (sent, encrypted) = given;
             put_data(0x80, &encrypted, reply);
@@ -85,7 +97,7 @@ pub fn encrypted_nonce<E: Eeprom, C: Coprocessor>(
                 memory,
             })
         }
-        Err(_) => refused(FAULT, idle(memory), reply),
+        Err(rule) => refused(start_refusal(rule), idle(memory), reply),
     }
 }
 
@@ -207,43 +219,116 @@ fn channel_of(done: &Done) -> Channel
     Channel::new(enc, mac)
 }
 
-/// The last step: the terminal's token in 85 is compared, the chip's is sent in 86 with the names of the trust
-/// points in 87 and 88, and the channel is opened. Rule 10 is a body of another form, rule 55 that the
-/// token is wrong.
-pub fn mutual_authentication<E: Eeprom>(
-    session: Session,
-    store: &Store,
-    cells: &E,
-    c: &Command<'_>,
+/// The last step where the terminal's token was right: the chip's is sent in 86 with the names of the trust points in 87
+/// and 88, and the channel is opened.
+fn accept(
+    done: &Done,
+    token: &[u8; 8],
+    kept: &Record,
+    memory: Memory,
     reply: &mut Reply,
 ) -> Reaction
-    requires fits { stored.Fits store.now (E.device cells.now) (E.cells cells.now) }
-    requires turn { next_of session.run ≡ Some Kind.MutualAuthentication }
-    ensures told { (channel : Option ChannelState)
-        → IsAnsweredByKind Kind.MutualAuthentication (held (E.cells cells.now)) (state session channel) (plain_command c.now) [] result
-        (plain_reply reply.new) }
+    ensures rule { result.rule.0 ≡ 0 }
+    ensures reply { plain_reply reply.new ≡ data_alone (object 0x7C (object 0x86 token.now ++ object 0x87
+        (record_view kept.now).current.name ++ previous_name (record_view kept.now).previous)) }
     ensures small { array_vec_len reply.new.content ≤ 2048 }
+    ensures left { (channel : Option ChannelState) → state_left result channel ≡ state_with_pace memory (done_view done.now) }
 {
-    let _ = cells;
-    let Some(token) = token_in(c.body) else {
-        return refused(BODY_FORM, session, reply);
-    };
-    let Session { run, memory } = session;
-    let Run::Agreed(agreed) = run else {
-        return refused(NO_STEP, idle(memory), reply);
-    };
-    let Ok(given) = agreed.check(&token, None) else {
-        return refused(WRONG_TOKEN, idle(memory), reply);
-    };
-    let (done, own_token) = given;
-    put_token(&own_token, store.kept(), reply);
+    put_token(token, kept, reply);
     Reaction {
         rule: Rule(0),
         session: idle(Memory {
             selected: memory.selected,
             current: memory.current,
-            pace: Some(last_pace(&done)),
+            pace: Some(last_pace(done)),
         }),
-        opened: Some(channel_of(&done)),
+        opened: Some(channel_of(done)),
+    }
+}
+
+/// The tokens of a PACE with another password than the PIN.
+fn prove(
+    agreed: Agreed,
+    token: &[u8; 8],
+    memory: Memory,
+    kept: &Record,
+    reply: &mut Reply,
+) -> Reaction
+    requires other { is_pin (agreed_view agreed).choice.password ≡ false }
+    ensures told { (full : FullRecord) (channel : Option ChannelState) (c : PlainCommand) → full.fields ≡ record_view kept.now → SendsToken c token.now
+        → IsAnsweredByKind Kind.MutualAuthentication full (state (at_tokens agreed memory) channel) c [] result (plain_reply reply.new) }
+    ensures small { array_vec_len reply.new.content ≤ 2048 }
+{
+    let Ok(given) = agreed.check(token, None) else {
+        return refused(WRONG_TOKEN, idle(memory), reply);
+    };
+    let (done, own_token) = given;
+    accept(&done, &own_token, kept, memory, reply)
+}
+
+/// The tokens of a PACE with the PIN. A try is spent before they are compared, and that commit's receipt pays for it; a
+/// right token gives all tries back before it is answered. Rule 54 is that there is no commit number left, rule 55 that
+/// the token is wrong.
+fn prove_pin<E: Eeprom>(
+    agreed: Agreed,
+    token: &[u8; 8],
+    memory: Memory,
+    store: &mut Store,
+    cells: &mut E,
+    reply: &mut Reply,
+) -> Ending
+    requires fits { stored.Fits store.old (E.device cells.old) (E.cells cells.old) }
+    requires pin { is_pin (agreed_view agreed).choice.password ≡ true }
+    requires try_left { 1 ≤ (stored.fields_of store.old).tries }
+    ensures ended { (copro : CoproSeen) (channel : Option ChannelState) (c : PlainCommand) → SendsToken c token.now
+        → IsEndedByKind Kind.MutualAuthentication (state (at_tokens agreed memory) channel) c [] result (plain_reply reply.new)
+        (world copro store.old (E.device cells.old) (E.cells cells.old)) (world copro store.new (E.device cells.new) (E.cells cells.new)) }
+    ensures layout { SameLayout (E.cells cells.old) (E.cells cells.new) }
+    ensures small { array_vec_len reply.new.content ≤ 2048 }
+{
+    if store.kept().number > LAST_NUMBER {
+        return uncommitted(refused(NO_NUMBER, idle(memory), reply));
+    }
+    let Ok(receipt) = store.commit(cells, &Effect::Spend) else {
+        return lost(0, reply);
+    };
+    let wrong = wrong_pin(store.kept().tries);
+    let Ok(given) = agreed.check(token, Some(receipt)) else {
+        return committed(refused(wrong, idle(memory), reply), 1);
+    };
+    let Ok(_) = store.commit(cells, &Effect::Refill) else {
+        return lost(1, reply);
+    };
+    let (done, own_token) = given;
+    committed(accept(&done, &own_token, store.kept(), memory, reply), 2)
+}
+
+/// The last step: the terminal's token in 85 is compared, the chip's is sent in 86 with the names of the trust
+/// points in 87 and 88, and the channel is opened. Rule 10 is a body of another form, rule 54 that there is no commit
+/// number left for the tries of the PIN, rule 55 that the token is wrong.
+pub fn mutual_authentication<E: Eeprom>(
+    session: Session,
+    store: &mut Store,
+    cells: &mut E,
+    c: &Command<'_>,
+    reply: &mut Reply,
+) -> Ending
+    requires fits { stored.Fits store.old (E.device cells.old) (E.cells cells.old) }
+    requires turn { next_of session.run ≡ Some Kind.MutualAuthentication }
+    requires try_left { IsTryLeft session.run (stored.fields_of store.old) }
+    ensures performed { (copro : CoproSeen) → Performed Kind.MutualAuthentication session (plain_command c.now) result (plain_reply reply.new)
+        (world copro store.old (E.device cells.old) (E.cells cells.old)) (world copro store.new (E.device cells.new) (E.cells cells.new)) }
+    ensures small { array_vec_len reply.new.content ≤ 2048 }
+{
+    let Some(token) = token_in(c.body) else {
+        return uncommitted(refused(BODY_FORM, session, reply));
+    };
+    let Session { run, memory } = session;
+    let Run::Agreed(agreed) = run else {
+        return uncommitted(refused(NO_STEP, idle(memory), reply));
+    };
+    match agreed.password() {
+        Password::Pin => prove_pin(agreed, &token, memory, store, cells, reply),
+        _ => uncommitted(prove(agreed, &token, memory, store.kept(), reply)),
     }
 }

@@ -1,5 +1,9 @@
 //! The refusals, each with its rule and its status.
+ghost use Rattle.std.specs.Prelude.{◌≡◌, ◌+◌, ◌<◌};
+ghost use Rattle.eid_chip.specs.Steps.{refusal, start_refused};
+
 use eid_base::{Rule, Status};
+use eid_password::rules;
 
 /// The rule that a command failed, and the status that says so.
 #[derive(Clone, Copy)]
@@ -68,6 +72,21 @@ pub const NOT_NAMED: Refusal = Refusal {
     rule: Rule(13),
     status: Status(0x6A82),
 };
+/// The PIN is deactivated.
+pub const INACTIVE: Refusal = Refusal {
+    rule: Rule(15),
+    status: Status(0x6984),
+};
+/// No try of the PIN is left.
+pub const BLOCKED: Refusal = Refusal {
+    rule: Rule(16),
+    status: Status(0x6983),
+};
+/// One try of the PIN is left, and the last PACE was not with the CAN.
+pub const SUSPENDED: Refusal = Refusal {
+    rule: Rule(17),
+    status: Status(0x6985),
+};
 /// The session has no PACE.
 pub const NO_PACE: Refusal = Refusal {
     rule: Rule(20),
@@ -77,6 +96,16 @@ pub const NO_PACE: Refusal = Refusal {
 pub const NO_TERMINAL: Refusal = Refusal {
     rule: Rule(26),
     status: Status(0x6982),
+};
+/// The last PACE gives no right to manage the PIN in this way.
+pub const NO_PIN_MANAGEMENT: Refusal = Refusal {
+    rule: Rule(29),
+    status: Status(0x6982),
+};
+/// No unblocking is left.
+pub const NO_UNBLOCKING: Refusal = Refusal {
+    rule: Rule(30),
+    status: Status(0x6983),
 };
 /// The file is absent.
 pub const NO_FILE: Refusal = Refusal {
@@ -103,8 +132,36 @@ pub const NO_POINT: Refusal = Refusal {
     rule: Rule(52),
     status: Status(0x6A80),
 };
-/// The token is wrong.
+/// There is no commit number left.
+pub const NO_NUMBER: Refusal = Refusal {
+    rule: Rule(54),
+    status: Status(0x6581),
+};
+/// The token is wrong, and not of the PIN.
 pub const WRONG_TOKEN: Refusal = Refusal {
     rule: Rule(55),
     status: Status(0x6300),
 };
+
+/// The token of the PIN is wrong, and so many tries are left.
+pub fn wrong_pin(tries: u8) -> Refusal
+    requires { tries < 16 }
+    ensures { refusal result ≡ record { rule = 55; status = 0x63C0 + tries } }
+{
+    Refusal {
+        rule: Rule(55),
+        status: Status(0x63c0 + u16::from(tries)),
+    }
+}
+
+/// The refusal of the first step of PACE by this rule.
+pub fn start_refusal(rule: Rule) -> Refusal
+    ensures { refusal result ≡ start_refused rule.0 }
+{
+    match rule {
+        rules::INACTIVE => INACTIVE,
+        rules::BLOCKED => BLOCKED,
+        rules::SUSPENDED => SUSPENDED,
+        _ => FAULT,
+    }
+}

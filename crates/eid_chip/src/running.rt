@@ -1,4 +1,7 @@
 //! What a chip with power has.
+ghost use Rattle.eid_store.specs.Store.{fields_of};
+ghost use Rattle.eid_chip.specs.Tries.{IsTryLeft};
+
 use crate::session::Session;
 use eid_sm::Channel;
 use eid_store::Store;
@@ -9,4 +12,6 @@ pub struct Running {
     pub store: Store,
     pub session: Session,
     pub channel: Option<Channel>,
+    // A PACE with the PIN has come behind its first step only while a try is left.
+    pub ghost try_left: { IsTryLeft session.run (fields_of store) },
 }

@@ -1,7 +1,5 @@
 //! What a session leaves from one command to the next.
 ghost use Rattle.std.specs.Prelude.{◌≡◌};
-ghost use Rattle.eid_record.specs.declared.fields.Password.TheVariants.{Can};
-ghost use Rattle.eid_chip.specs.Passwords.{password_of};
 
 use eid_bits::Template;
 use eid_pace::{Agreed, Chosen, Mapped, NonceSent};
@@ -51,8 +49,6 @@ pub struct Session {
     pub run: Run,
     /// What is kept beside it.
     pub memory: Memory,
-    // So far no other password can be chosen.
-    pub ghost can_alone: { password_of run ≡ Can },
 }
 
 impl Session {
@@ -81,6 +77,37 @@ impl Session {
         ensures { (channel : Option ChannelState) → state result channel ≡ without_run (state self channel) }
     {
         idle(self.memory)
+    }
+}
+
+impl Memory {
+    ghost use Rattle.std.specs.Prelude.{option_map};
+    ghost use Rattle.eid_model.specs.Rules.{was_with};
+    ghost use Rattle.eid_password.specs.Passwords.{is_can};
+    ghost use Rattle.eid_chip.specs.States.{memory};
+
+    /// The password of the last PACE, where there was one.
+    pub fn last_password(&self) -> Option<Password>
+        ensures { result ≡ option_map (λ pace. pace.password) self.now.pace }
+    {
+        match &self.pace {
+            Some(pace) => Some(pace.password),
+            None => None,
+        }
+    }
+
+    /// Whether the last PACE was with the CAN.
+    pub fn was_with_can(&self) -> bool
+        ensures { result ≡ was_with is_can (option_map memory self.now.pace) }
+    {
+        match &self.pace {
+            Some(pace) => match pace.password {
+                Password::Can => true,
+                Password::Pin => false,
+                Password::Puk => false,
+            },
+            None => false,
+        }
     }
 }
 

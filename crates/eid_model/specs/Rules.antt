@@ -224,6 +224,10 @@ to_commit (Some ChangePin) s = SetPin s.command.body ∷ []
 to_commit (Some UnblockPin) s = Unblock (was_with is_puk s.state.pace) ∷ []
 to_commit (Some NoStep) s = []
 
+-- the kinds that may commit something
+abbrev pub committing : List Kind
+committing = MutualAuthentication ∷ ChangePin ∷ UnblockPin ∷ []
+
 -- the greatest commit number after which commits are due: the last step of PACE may make two more
 abbrev pub LAST_NUMBER : ℕ
 LAST_NUMBER = 4294967293
@@ -334,7 +338,7 @@ commit_rules =
     record {
       number = 54;
       status = fixed 0x6581;
-      kinds = MutualAuthentication ∷ ChangePin ∷ UnblockPin ∷ [];
+      kinds = committing;
       holds = λ s. length (to_commit s.kind s) == 0 || nat_le s.kept.fields.number LAST_NUMBER;
     } ∷ []
 

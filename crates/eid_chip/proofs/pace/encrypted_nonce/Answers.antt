@@ -11,7 +11,7 @@ use Rattle.eid_chip.specs.Held.{held}
 use Rattle.eid_chip.specs.States.{state, phase_of}
 use Rattle.eid_chip.proofs.HeldFiles.{held_fields}
 use Rattle.eid_chip.proofs.PaceSteps.{no_empty_body, nonce_sent, went_on}
-use Rattle.eid_chip.proofs.Unasked.{not_asked}
+use Rattle.eid_pace.proofs.Unasked.{not_asked}
 use Rattle.eid_chip.proofs.pace.encrypted_nonce.Goals as goal
 
 pub returns-then-not-is_no_data-clause-told : goal.returns-then-not-is_no_data-clause-told

@@ -1,0 +1,20 @@
+-- Inside: cited by private contracts alone.
+-- The tries of the PIN while a PACE with it is under way.
+use Rattle.std.specs.Prelude.{◌≡◌, ℕ, ◌≤◌, Bool, true, false}
+use Rattle.eid_record.specs.Plain.{PlainRecord}
+use Rattle.eid_password.specs.Passwords.{is_pin}
+use Rattle.eid_pace.specs.View.{nonce_sent_view, mapped_view, agreed_view}
+use Rattle.eid_chip.specs.declared.session.Run.{Run}
+use Rattle.eid_chip.specs.declared.session.Run.TheVariants as runs
+
+-- a PACE with the PIN has sent its nonce
+abbrev pub tries_pin : Run → Bool
+tries_pin runs.Idle = false
+tries_pin (runs.Chosen chosen) = false
+tries_pin (runs.NonceSent sent) = is_pin (nonce_sent_view sent).choice.password
+tries_pin (runs.Mapped mapped) = is_pin (mapped_view mapped).choice.password
+tries_pin (runs.Agreed agreed) = is_pin (agreed_view agreed).choice.password
+
+-- where it has, a try is left
+abbrev pub IsTryLeft : Run → PlainRecord → Type 0
+IsTryLeft run kept = tries_pin run ≡ true → 1 ≤ kept.tries

@@ -1,0 +1,129 @@
+//! The management of the PIN by RESET RETRY COUNTER (BSI TR-03110-3), and what commits one effect.
+ghost use Rattle.std.specs.Prelude.{◌≡◌, ◌≤◌, [], true, false, IfSome, IfNone, Option, Some};
+ghost use Rattle.arrayvec.specs.ArrayVec.{array_vec_len};
+ghost use Rattle.eid_apdu.specs.Answer.{plain_reply};
+ghost use Rattle.eid_apdu.specs.Command.{PlainCommand, plain_command};
+ghost use Rattle.eid_copro.specs.Seen.{CoproSeen};
+ghost use Rattle.eid_record.specs.Effect.{CanApply};
+ghost use Rattle.eid_record.specs.EffectView.{effect_view};
+ghost use Rattle.eid_record.specs.Valid.{AreDigits};
+ghost use Rattle.eid_sm.specs.Keys.{ChannelState};
+ghost use Rattle.eid_store.specs.Store as stored;
+ghost use Rattle.eid_model.specs.Rules.{is_formed};
+ghost use Rattle.eid_chip.specs.Commits.{SameLayout};
+ghost use Rattle.eid_chip.specs.Held.{held};
+ghost use Rattle.eid_chip.specs.States.{state};
+ghost use Rattle.eid_chip.specs.Steps.{CommitsOne, IsEndedByKind, Performed};
+ghost use Rattle.eid_chip.specs.Worlds.{world};
+
+use crate::ending::{carried_out, committed, lost, refused, uncommitted};
+use crate::reaction::Ending;
+use crate::refusal::{BODY_FORM, NO_NUMBER, NO_PACE, NO_PIN_MANAGEMENT, NO_UNBLOCKING};
+use crate::session::Session;
+use eid_apdu::{Command, Reply};
+use eid_cells::Eeprom;
+use eid_model::Kind;
+use eid_record::{Effect, Password};
+use eid_store::Store;
+
+/// The greatest commit number after which commits are made: the last step of PACE may make two more.
+pub const LAST_NUMBER: u32 = 4_294_967_293;
+
+/// How many digits a PIN has.
+const PIN_SIZE: usize = 6;
+
+/// The PIN that a body is, where it is one.
+fn pin_in(body: &[u8]) -> Option<[u8; PIN_SIZE]>
+    ensures found { IfSome result (λ pin. (pin ≡ body.now) × AreDigits 6 pin × (is_formed (Some Kind.ChangePin) body.now ≡ true)) }
+    ensures none { IfNone result (is_formed (Some Kind.ChangePin) body.now ≡ false) }
+{
+    if body.len() != PIN_SIZE || !body.iter().all(|byte| byte.is_ascii_digit()) {
+        return None;
+    }
+    let mut pin = [0; PIN_SIZE];
+    pin.copy_from_slice(body);
+    Some(pin)
+}
+
+/// The end of a command that commits one effect, and of which nothing else is to be refused: it is committed, and 9000
+/// answered. Rule 54 is that there is no commit number left.
+fn commit_one<E: Eeprom>(
+    effect: &Effect<'_>,
+    session: Session,
+    store: &mut Store,
+    cells: &mut E,
+    reply: &mut Reply,
+) -> Ending
+    requires fits { stored.Fits store.old (E.device cells.old) (E.cells cells.old) }
+    requires effect { CanApply (effect_view effect.now) (stored.fields_of store.old) }
+    ensures ended { (copro : CoproSeen) (channel : Option ChannelState) (kind : Kind) (c : PlainCommand)
+        → CommitsOne kind (held (E.cells cells.old)) (state session channel) c (effect_view effect.now)
+        → IsEndedByKind kind (state session channel) c [] result (plain_reply reply.new)
+        (world copro store.old (E.device cells.old) (E.cells cells.old)) (world copro store.new (E.device cells.new) (E.cells cells.new)) }
+    ensures layout { SameLayout (E.cells cells.old) (E.cells cells.new) }
+    ensures small { array_vec_len reply.new.content ≤ 2048 }
+{
+    if store.kept().number > LAST_NUMBER {
+        return uncommitted(refused(NO_NUMBER, session, reply));
+    }
+    let Ok(_) = store.commit(cells, effect) else {
+        return lost(0, reply);
+    };
+    committed(carried_out(session.without_run(), reply), 1)
+}
+
+/// RESET RETRY COUNTER with a new PIN, in a channel that the PIN opened. Rule 10 is a body other than six digits, rule 20
+/// that there is no PACE, rule 29 that it was with another password, rule 54 that there is no commit number left.
+pub fn change_pin<E: Eeprom>(
+    session: Session,
+    store: &mut Store,
+    cells: &mut E,
+    c: &Command<'_>,
+    reply: &mut Reply,
+) -> Ending
+    requires fits { stored.Fits store.old (E.device cells.old) (E.cells cells.old) }
+    ensures performed { (copro : CoproSeen) → Performed Kind.ChangePin session (plain_command c.now) result (plain_reply reply.new)
+        (world copro store.old (E.device cells.old) (E.cells cells.old)) (world copro store.new (E.device cells.new) (E.cells cells.new)) }
+    ensures small { array_vec_len reply.new.content ≤ 2048 }
+{
+    let Some(pin) = pin_in(c.body) else {
+        return uncommitted(refused(BODY_FORM, session, reply));
+    };
+    let Some(password) = session.memory.last_password() else {
+        return uncommitted(refused(NO_PACE, session, reply));
+    };
+    let Password::Pin = password else {
+        return uncommitted(refused(NO_PIN_MANAGEMENT, session, reply));
+    };
+    commit_one(&Effect::SetPin(pin), session, store, cells, reply)
+}
+
+/// RESET RETRY COUNTER without data, in a channel that the PUK opened: the tries of the PIN are given back. Rule 10 is a
+/// body, rule 20 that there is no PACE, rule 29 that it was with another password, rule 30 that no unblocking is left,
+/// rule 54 that there is no commit number left.
+pub fn unblock_pin<E: Eeprom>(
+    session: Session,
+    store: &mut Store,
+    cells: &mut E,
+    c: &Command<'_>,
+    reply: &mut Reply,
+) -> Ending
+    requires fits { stored.Fits store.old (E.device cells.old) (E.cells cells.old) }
+    ensures performed { (copro : CoproSeen) → Performed Kind.UnblockPin session (plain_command c.now) result (plain_reply reply.new)
+        (world copro store.old (E.device cells.old) (E.cells cells.old)) (world copro store.new (E.device cells.new) (E.cells cells.new)) }
+    ensures small { array_vec_len reply.new.content ≤ 2048 }
+{
+    if !c.body.is_empty() {
+        return uncommitted(refused(BODY_FORM, session, reply));
+    }
+    let Some(password) = session.memory.last_password() else {
+        return uncommitted(refused(NO_PACE, session, reply));
+    };
+    let Password::Puk = password else {
+        return uncommitted(refused(NO_PIN_MANAGEMENT, session, reply));
+    };
+    if store.kept().unblocks == 0 {
+        return uncommitted(refused(NO_UNBLOCKING, session, reply));
+    }
+    commit_one(&Effect::Unblock { by_puk: true }, session, store, cells, reply)
+}
