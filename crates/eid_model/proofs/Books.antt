@@ -1,16 +1,15 @@
 -- The books of a journal with one moment more, and what cells may hold then.
-use Rattle.std.proofs.Common.{◌≡◌, ◌≢◌, ℕ, zero, suc, ◌+◌, Bool, true, false, List, [], ◌∷◌, length, take, drop, Option, Some, None, refl, sym, ap, ◌∙◌, subst, arith, inl, inr}
+use Rattle.std.proofs.Common.{◌≡◌, ℕ, ◌+◌, Bool, true, false, List, [], ◌∷◌, length, take, drop, Option, Some, None, refl, sym, ap, ◌∙◌, subst, arith, inl, inr}
 use Rattle.std.specs.Prelude.{IfSome, ◌==◌, ◌&&◌, ◌++◌, is_some, is_none, if◌then◌else◌}
 use Rattle.std.proofs.lemmas.Bool.Decides.{nat_tests}
 use Rattle.std.proofs.lemmas.List.{take_all}
 use Rattle.eid_apdu.specs.Command.{PlainCommand}
 use Rattle.eid_apdu.specs.Answer.{PlainReply}
-use Rattle.eid_copro.specs.declared.ask.Answer.{Answer}
 use Rattle.eid_record.specs.Plain.{FullRecord, PlainEffect}
 use Rattle.eid_record.specs.Effect.{committed}
 use Rattle.eid_model.specs.Moments.{Event, PoweredOn, PoweredOff, Received, PlainMoment, on}
 use Rattle.eid_model.specs.Runs.{answers_of}
-use Rattle.eid_model.specs.Sessions.{State, state_of}
+use Rattle.eid_model.specs.Sessions.{state_of}
 use Rattle.eid_model.specs.declared.kind.Kind.{Kind}
 use Rattle.eid_model.specs.declared.kind.Kind.TheVariants.{SelectApplication, SelectMasterFile, SelectFile, ReadBinary, SelectPace, EncryptedNonce, MapNonce, PerformKeyAgreement, MutualAuthentication, ChangePin, UnblockPin, NoStep}
 use Rattle.eid_model.specs.Rules.{Incoming, NoCommand, MissingObjects, WrongObjects, OfCommand, Situation, RuleRow, plain_of, answer_rules, commit_rules, first_failed, proves_pin, is_token, token_effects, to_commit}
@@ -126,7 +125,7 @@ on_pends_nothing opening (m ∷ before) power = by m.input refl (on_pends_nothin
 abbrev Stands : FullRecord → Books → Option FullRecord → Type 0
 Stands opening b holds = MayHold b.pending (record_after opening b.ledger) holds
 
-books_at : (opening : FullRecord) (before : List PlainMoment) (m : PlainMoment) (bytes : List ℕ) (effects : List PlainEffect) → m.input ≡ Received bytes → on before ≡ true → due_at (kept opening before) opening before m.plain m ≡ effects
+pub books_at : (opening : FullRecord) (before : List PlainMoment) (m : PlainMoment) (bytes : List ℕ) (effects : List PlainEffect) → m.input ≡ Received bytes → on before ≡ true → due_at (kept opening before) opening before m.plain m ≡ effects
     → books opening (m ∷ before) ≡ books_handled effects m (books opening before)
 unfolding books
 books_at opening before m bytes effects is power due_is =

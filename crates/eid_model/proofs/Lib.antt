@@ -4,3 +4,5 @@ pub mod Journals
 pub mod Ledgers
 pub mod Books
 pub mod Forms
+pub mod Compared
+pub mod Laws

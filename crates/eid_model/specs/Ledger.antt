@@ -1,15 +1,14 @@
 -- The ledger: which effects were committed, and the record that is kept because of them. Everything is found by looking
 -- back over the moments and over the ledger. This project's own.
-use Rattle.std.specs.Prelude.{◌≡◌, ◌⊎◌, ℕ, ◌+◌, ◌-◌, ◌≤◌, Bool, ◌==◌, ◌&&◌, nat_le, nat_lt, List, [], ◌∷◌, length, take, drop, slice_index, Option, Some, None, is_some, if◌then◌else◌}
-use Rattle.std.specs.Option.{option_or}
+use Rattle.std.specs.Prelude.{◌≡◌, ◌⊎◌, ℕ, ◌+◌, ◌-◌, Bool, ◌==◌, ◌&&◌, nat_le, nat_lt, List, [], ◌∷◌, length, take, drop, slice_index, Option, Some, None, is_some, if◌then◌else◌}
 use Rattle.eid_apdu.specs.Command.{PlainCommand}
 use Rattle.eid_bits.specs.Date.{number_of}
 use Rattle.eid_record.specs.Plain.{FullRecord, PlainTrustPoint, PlainEffect, Spend, Refill, Unblock, SetPin, SetCan, Active, Advance, Write}
 use Rattle.eid_record.specs.Effect.{committed}
 use Rattle.eid_model.specs.Moments.{Event, PoweredOn, PoweredOff, Received, PlainMoment, on}
 use Rattle.eid_model.specs.Runs.{answers_of}
-use Rattle.eid_model.specs.Sessions.{State, state_of}
-use Rattle.eid_model.specs.Rules.{Incoming, OfCommand}
+use Rattle.eid_model.specs.Sessions.{state_of}
+use Rattle.eid_model.specs.Rules.{OfCommand}
 use Rattle.eid_model.specs.Answers.{situation, due}
 
 -- ---- the record kept, by the effects that were committed, the newest first

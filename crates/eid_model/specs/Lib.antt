@@ -9,3 +9,4 @@ pub mod Legal
 pub mod Trace
 pub mod View
 pub mod Ledger
+pub mod Laws

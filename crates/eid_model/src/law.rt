@@ -1,10 +1,14 @@
 //! Laws about every legal journal, and about forms.
-ghost use Rattle.std.specs.Prelude.{◌≡◌, ◌<◌, ◌≤◌, ◌↔◌, ℕ, List, ◌∷◌, length, true};
-ghost use Rattle.eid_record.specs.Plain.{FullRecord};
+ghost use Rattle.std.specs.Prelude.{◌≡◌, ◌<◌, ◌≤◌, ◌↔◌, ℕ, List, ◌∷◌, ◌++◌, length, false, true};
+ghost use Rattle.eid_record.specs.Plain.{FullRecord, PlainEffect, Spend};
+ghost use Rattle.eid_password.specs.Passwords.{ALL_TRIES};
 ghost use Rattle.eid_copro.specs.Told.{Source, AnswersFrom};
-ghost use Rattle.eid_model.specs.Moments.{PlainMoment, script, asked, leaves_no_session, AreSteady};
+ghost use Rattle.eid_model.specs.Moments.{PlainMoment, live, script, asked, leaves_no_session, AreSteady};
+ghost use Rattle.eid_model.specs.Runs.{run, phase};
 ghost use Rattle.eid_model.specs.Sessions.{state_of, fresh};
 ghost use Rattle.eid_model.specs.Legal.{AreLegal};
+ghost use Rattle.eid_model.specs.Ledger.{ledger, kept};
+ghost use Rattle.eid_model.specs.Laws.{compares_pin, refused_pins, gives_back, goes_on_with_pin};
 ghost use Rattle.eid_model.specs.Bodies.{authentication_data, data_in, holds_value};
 
 /// There is one journal for an opening record, a script and a source of the coprocessor's answers, as
@@ -20,6 +24,35 @@ pub fn law_one_journal()
 pub fn law_fresh()
     ensures { (opening : FullRecord) (m : PlainMoment) (before : List PlainMoment) → AreLegal opening (m ∷ before)
         → leaves_no_session m ≡ true → state_of opening (m ∷ before) ≡ fresh }
+{}
+
+/// A try of the PIN is spent before its token is compared: where a moment compared one, rightly or not, its Spend
+/// stands in the ledger.
+pub fn law_spend()
+    ensures { (opening : FullRecord) (m : PlainMoment) (before : List PlainMoment) → AreLegal opening (m ∷ before)
+        → compares_pin m before ≡ true
+        → (later : List PlainEffect) × (ledger opening (m ∷ before) ≡ later ++ Spend ∷ ledger opening before) }
+{}
+
+/// The ledger never loses an effect: whatever comes later, power cuts too, what was committed stays.
+pub fn law_kept()
+    ensures { (opening : FullRecord) (later before : List PlainMoment)
+        → (gained : List PlainEffect) × (ledger opening (later ++ before) ≡ gained ++ ledger opening before) }
+{}
+
+/// A PACE with the PIN goes on behind its first step only while a try is left.
+pub fn law_try_left()
+    ensures { (opening : FullRecord) (moments : List PlainMoment) → AreLegal opening moments
+        → goes_on_with_pin (phase (run (live moments))) ≡ true → 1 ≤ (kept opening moments).fields.tries }
+{}
+
+/// As long as no effect gives the tries back, at most three tokens of the PIN are refused, over however many sessions
+/// and power cuts.
+pub fn law_tries()
+    ensures { (opening : FullRecord) (recent before : List PlainMoment) (gained : List PlainEffect)
+        → AreLegal opening (recent ++ before) → opening.fields.tries ≤ ALL_TRIES
+        → ledger opening (recent ++ before) ≡ gained ++ ledger opening before → gives_back gained ≡ false
+        → refused_pins recent before ≤ ALL_TRIES }
 {}
 
 /// Reading a body of GENERAL AUTHENTICATE is the converse of writing it: it holds a value of this size under the

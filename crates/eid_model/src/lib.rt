@@ -7,6 +7,9 @@ mod moment;
 mod text;
 
 pub use kind::Kind;
-pub use law::{law_authentication_data, law_fresh, law_one_journal};
+pub use law::{
+    law_authentication_data, law_fresh, law_kept, law_one_journal, law_spend, law_tries,
+    law_try_left,
+};
 pub use moment::{Input, InputRef, MAX_BODY, Moment, MomentRef, Plain};
 pub use text::{Text, trace_text};

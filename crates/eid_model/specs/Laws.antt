@@ -1,0 +1,59 @@
+-- The words of the laws about the tries of the PIN: what the newest moment was, by looking back over a journal (BSI
+-- TR-03110-2, TR-03110-3).
+use Rattle.std.specs.Prelude.{ℕ, ◌+◌, Bool, true, false, ◌==◌, ◌&&◌, ◌||◌, List, [], ◌∷◌, ◌++◌, Option, Some, None, is_some, option_and_then, if◌then◌else◌}
+use Rattle.std.specs.List.{list_any}
+use Rattle.eid_record.specs.Plain.{PlainEffect, Spend, Refill, Unblock, SetPin, SetCan, Active, Advance, Write}
+use Rattle.eid_password.specs.Passwords.{is_pin}
+use Rattle.eid_model.specs.declared.kind.Kind.{Kind}
+use Rattle.eid_model.specs.declared.kind.Kind.TheVariants.{MutualAuthentication}
+use Rattle.eid_model.specs.Kinds.{same_kind, kind_named}
+use Rattle.eid_model.specs.Moments.{PlainMoment, live}
+use Rattle.eid_model.specs.Runs.{run, next, Phase, Idle, Chose, SentNonce, HasBase, HasSecret, phase}
+use Rattle.eid_model.specs.Rules.{proves_pin}
+
+-- the kind of the command that came at the newest moment, whether it was carried out or not
+abbrev pub kind_sent : PlainMoment → List PlainMoment → Option Kind
+kind_sent m before = option_and_then (kind_named (next (run (live before)))) m.plain
+
+-- the last step of PACE, at which the tokens are exchanged
+abbrev pub is_last_step : Option Kind → Bool
+is_last_step None = false
+is_last_step (Some kind) = same_kind kind MutualAuthentication
+
+-- the newest moment compared a token of the PIN: it answered the last step of a PACE with the PIN, and no rule failed but
+-- that the token is right
+abbrev pub compares_pin : PlainMoment → List PlainMoment → Bool
+compares_pin m before =
+    is_some m.answer && (m.rule == 0 || m.rule == 55) && is_last_step (kind_sent m before) && proves_pin (phase (run (live before)))
+
+-- and the token was wrong
+abbrev pub refuses_pin : PlainMoment → List PlainMoment → Bool
+refuses_pin m before = compares_pin m before && m.rule == 55
+
+-- how many of the recent moments refused a token of the PIN
+abbrev pub refused_pins : (recent before : List PlainMoment) → ℕ
+refused_pins [] before = 0
+refused_pins (m ∷ recent) before = (if refuses_pin m (recent ++ before) then 1 else 0) + refused_pins recent before
+
+-- the effect gives the tries of the PIN back
+abbrev pub is_refill : PlainEffect → Bool
+is_refill Spend = false
+is_refill Refill = true
+is_refill (Unblock by_puk) = true
+is_refill (SetPin pin) = false
+is_refill (SetCan can) = false
+is_refill (Active active) = false
+is_refill (Advance date current previous) = false
+is_refill (Write file offset bytes) = false
+
+-- and so does one of these
+abbrev pub gives_back : List PlainEffect → Bool
+gives_back effects = list_any is_refill effects
+
+-- a PACE with the PIN is under way behind its first step
+abbrev pub goes_on_with_pin : Phase → Bool
+goes_on_with_pin Idle = false
+goes_on_with_pin (Chose choice) = false
+goes_on_with_pin (SentNonce sent) = is_pin sent.choice.password
+goes_on_with_pin (HasBase mapped) = is_pin mapped.choice.password
+goes_on_with_pin (HasSecret agreed) = is_pin agreed.choice.password
