@@ -26,8 +26,8 @@ pub fn law_fresh()
         → leaves_no_session m ≡ true → state_of opening (m ∷ before) ≡ fresh }
 {}
 
-/// A try of the PIN is spent before its token is compared: where a moment compared one, rightly or not, its Spend
-/// stands in the ledger.
+/// Each token of the PIN costs a try first: where a moment compared one, rightly or not, its Spend is the first effect that
+/// the moment entered in the ledger.
 pub fn law_spend()
     ensures { (opening : FullRecord) (m : PlainMoment) (before : List PlainMoment) → AreLegal opening (m ∷ before)
         → compares_pin m before ≡ true
