@@ -8,7 +8,7 @@ use Rattle.eid_record.specs.Plain.{FullRecord}
 use Rattle.eid_sm.specs.Keys.{ChannelState}
 use Rattle.eid_model.specs.declared.kind.Kind.{Kind}
 use Rattle.eid_model.specs.Sessions.{State}
-use Rattle.eid_model.specs.Rules.{RuleRow, kind_rules, answer_rules, proof_rules, first_failed}
+use Rattle.eid_model.specs.Rules.{RuleRow, kind_rules, answer_rules, commit_rules, proof_rules, first_failed}
 use Rattle.eid_model.specs.Answers.{outcome_by, question_of, success_of}
 use Rattle.eid_chip.specs.declared.session.Memory.{Memory}
 use Rattle.eid_chip.specs.declared.session.Session.{Session}
@@ -20,7 +20,7 @@ use Rattle.eid_model.specs.Runs as phases
 use Rattle.eid_chip.specs.Transitions.{state_carried_out, two_messages_later}
 
 -- no question, whatever the rules say
-unasked_at : (b : Bool) (q : Option Question) → q ≡ None → (if b then q else None) ≡ None
+pub unasked_at : (b : Bool) (q : Option Question) → q ≡ None → (if b then q else None) ≡ None
 unasked_at true q e = e
 unasked_at false q e = refl
 
@@ -32,7 +32,7 @@ idle_state s m channel run kept =
     rw (phase, next, kept) refl
 
 -- a command of a kind without questions that fails no rule
-pub carried : (kind : Kind) (kept : FullRecord) (old : State) (c : PlainCommand) (r : Reaction) (reply : PlainReply) → question_of (Some kind) (known kind kept old c []) ≡ None → first_failed (kind_rules ++ answer_rules ++ proof_rules) (known kind kept old c []) ≡ None → r.rule.0 ≡ 0 → r.opened ≡ None → reply ≡ success_of kind (known kind kept old c []) → state r.session (option_map two_messages_later old.channel) ≡ state_carried_out kind c [] old → IsAnsweredByKind kind kept old c [] r reply
+pub carried : (kind : Kind) (kept : FullRecord) (old : State) (c : PlainCommand) (r : Reaction) (reply : PlainReply) → question_of (Some kind) (known kind kept old c []) ≡ None → first_failed (kind_rules ++ answer_rules ++ commit_rules ++ proof_rules) (known kind kept old c []) ≡ None → r.rule.0 ≡ 0 → r.opened ≡ None → reply ≡ success_of kind (known kind kept old c []) → state r.session (option_map two_messages_later old.channel) ≡ state_carried_out kind c [] old → IsAnsweredByKind kind kept old c [] r reply
 carried kind kept old c r reply silent passes rule opened answered left = record {
   asked = unasked_at (is_none (first_failed (kind_rules ++ answer_rules) (known kind kept old c []))) _ silent;
   ended = ap (λ (f : Option RuleRow). outcome_by f (known kind kept old c [])) passes ∙ cc;

@@ -8,7 +8,13 @@ use Rattle.eid_record.specs.Plain.{FullRecord, PlainEffect}
 use Rattle.eid_record.specs.Effect.{committed}
 use Rattle.eid_store.specs.Cost.{Costs, written_times}
 use Rattle.eid_store.specs.Durable.{IsAllOrNothing}
+use Rattle.eid_store.specs.Stands.{stands}
+use Rattle.eid_store.specs.Store as stored
+use Rattle.eid_store.specs.declared.store.Store.{Store}
+use Rattle.eid_store.proofs.Laws.{commit_bound}
 use Rattle.eid_chip.specs.Commits.{Wrote, WasCutBehind}
+use Rattle.eid_chip.specs.Held.{held}
+use Rattle.eid_chip.proofs.HeldFiles.{held_is, held_stands, held_fields}
 
 -- a device that is not written to
 pub unwritten : (device : Device) → Wrote 0 device device
@@ -42,7 +48,7 @@ wrote_more {T = T} {E = E} finished writes first old new r x is least most wrote
       least = omega (arith, wrote.least, least);
       most = omega (arith, wrote.most, most);
       device = done.steady ∙ ap (written_times writes) wrote.device ∙ written_more first wrote.writes writes;
-      spared = λ told struck. spared_by finished writes first old wrote (λ told_now. (done.as_planned told_now).1) (nat_le first.planned wrote.writes) refl told struck.0 struck.1;
+      spared = λ told struck. spared_by finished writes first old wrote (λ told_now within. let err = (done.as_planned told_now).1 within in absurd (cc)) (nat_le first.planned wrote.writes) refl told struck.0 struck.1;
     }
 
 -- a commit that was cut behind others
@@ -53,7 +59,7 @@ cut_behind {T = T} {E = E} finished writes first old new r e is least most wrote
       between = old;
       wrote = wrote;
       cut = done.cut;
-      struck = λ told. let struck = (done.as_planned told).0 tt in (struck.0, omega (arith, struck.1, most));
+      struck = λ told. let struck = (done.as_planned told).0 refl in (struck.0, omega (arith, struck.1, most));
     }
 
 -- ---- what the cells hold
@@ -66,3 +72,40 @@ holds_committed effect old new kept is held = is ∙ ap (option_map (committed e
 pub holds_either : (effect : PlainEffect) (old new : Option FullRecord) (kept : FullRecord) → IsAllOrNothing effect old new → old ≡ Some kept → (new ≡ Some kept) ⊎ (new ≡ Some (committed effect kept))
 holds_either effect old new kept (inl same) held = inl (same ∙ held)
 holds_either effect old new kept (inr done) held = inr (holds_committed effect old new kept done held)
+
+-- ---- a store behind commits
+
+-- so many commits finished, and the cells stand for this record
+pub record Has (finished : ℕ) (kept : FullRecord) (first : Device) (store : Store) (device : Device) (cells : List ℕ) : Type 0 where
+  pub fits : stored.Fits store device cells
+  pub holds : stands cells ≡ Some kept
+  pub wrote : Wrote finished first device
+
+pub has_none : (store : Store) (device : Device) (cells : List ℕ) → stored.Fits store device cells → Has 0 (held cells) device store device cells
+has_none store device cells fits = record { fits = fits; holds = held_stands store device cells fits; wrote = unwritten device }
+
+-- one more
+pub has_more : {T E : Type 0} (effect : PlainEffect) (finished : ℕ) (kept : FullRecord) (first : Device) (store next : Store) (old new : Device) (cells cells_now : List ℕ) (r : Result T E) (x : T) → length cells ≡ 65536 → Has finished kept first store old cells → r ≡ Ok x
+    → stands cells_now ≡ option_map (committed effect) (stands cells) → stored.Fits next new cells_now → Costs (stored.commit_cost store cells effect) old new r → Has (finished + 1) (committed effect kept) first next new cells_now
+has_more effect finished kept first store next old new cells cells_now r x long has is done fits costs =
+    let bound = commit_bound store old cells effect long has.fits in
+    record {
+      fits = fits;
+      holds = holds_committed effect (stands cells) (stands cells_now) kept done has.holds;
+      wrote = wrote_more finished (stored.commit_cost store cells effect) first old new r x is bound.0 bound.1 has.wrote costs;
+    }
+
+-- one that was cut
+pub has_cut : {T E : Type 0} (effect : PlainEffect) (finished : ℕ) (kept : FullRecord) (first : Device) (store : Store) (old new : Device) (cells cells_now : List ℕ) (r : Result T E) (e : E) → length cells ≡ 65536 → Has finished kept first store old cells → r ≡ Err e
+    → IsAllOrNothing effect (stands cells) (stands cells_now) → Costs (stored.commit_cost store cells effect) old new r
+    → ((stands cells_now ≡ Some kept) ⊎ (stands cells_now ≡ Some (committed effect kept))) × WasCutBehind finished first new
+has_cut effect finished kept first store old new cells cells_now r e long has is either costs =
+    let bound = commit_bound store old cells effect long has.fits in (
+      holds_either effect (stands cells) (stands cells_now) kept either has.holds,
+      cut_behind finished (stored.commit_cost store cells effect) first old new r e is bound.0 bound.1 has.wrote costs,
+    )
+
+-- the fields that the store keeps are those of the record
+pub kept_fields : (finished : ℕ) (kept : FullRecord) (first : Device) (store : Store) (device : Device) (cells : List ℕ) → Has finished kept first store device cells → stored.fields_of store ≡ kept.fields
+kept_fields finished kept first store device cells has =
+    sym (held_fields store device cells has.fits) ∙ ap (λ (f : FullRecord). f.fields) (held_is cells kept has.holds)

@@ -10,3 +10,5 @@ pub mod Selections
 pub mod ReadSteps
 pub mod Refusals
 pub mod Commits
+pub mod PinSteps
+pub mod Management

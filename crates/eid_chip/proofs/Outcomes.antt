@@ -137,7 +137,7 @@ command_answered old c asks (Lost finished) reply before after did = refl
 abbrev pub refused_so : PlainRefusal → Outcome
 refused_so r = record { rule = r.rule; reply = status_alone r.status }
 
-if_not : {A : Type 0} (b : Bool) (x y : A) → b ≡ false → (if b then x else y) ≡ y
+pub if_not : {A : Type 0} (b : Bool) (x y : A) → b ≡ false → (if b then x else y) ≡ y
 if_not true x y e = absurd (cc)
 if_not false x y e = refl
 

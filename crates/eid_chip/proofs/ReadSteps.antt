@@ -8,7 +8,7 @@ use Rattle.eid_model.specs.declared.kind.Kind.TheVariants.{ReadBinary}
 use Rattle.eid_model.specs.Kinds.{is_by_short, file_of_short}
 use Rattle.eid_model.specs.Runs.{Idle, entered}
 use Rattle.eid_model.specs.Sessions.{State}
-use Rattle.eid_model.specs.Rules.{kind_rules, answer_rules, proof_rules, first_failed, file_meant, bytes_of_file, offset_meant, is_card_access}
+use Rattle.eid_model.specs.Rules.{kind_rules, answer_rules, commit_rules, proof_rules, first_failed, file_meant, bytes_of_file, offset_meant, is_card_access}
 use Rattle.eid_model.specs.Answers.{read_reply, success_of}
 use Rattle.eid_chip.specs.Transitions.{state_carried_out, two_messages_later}
 use Rattle.eid_chip.specs.Steps.{known}
@@ -22,7 +22,7 @@ long_so : (o : Option (List ℕ)) (n : ℕ) → option_map (λ bytes. length byt
 long_so None n e = absurd (cc)
 long_so (Some bytes) n e = cc
 
-pub read_passes : (kept : FullRecord) (old : State) (c : PlainCommand) (file size : ℕ) → (length c.body == 0) ≡ true → (is_by_short c || is_some old.current) ≡ true → file_meant (known ReadBinary kept old c []) ≡ Some file → (is_card_access (Some file) || is_some old.pace) ≡ true → nat_lt 1 file ≡ false → option_map (λ bytes. length bytes) (bytes_of_file kept (Some file)) ≡ Some size → nat_le (offset_meant c) size ≡ true → first_failed (kind_rules ++ answer_rules ++ proof_rules) (known ReadBinary kept old c []) ≡ None
+pub read_passes : (kept : FullRecord) (old : State) (c : PlainCommand) (file size : ℕ) → (length c.body == 0) ≡ true → (is_by_short c || is_some old.current) ≡ true → file_meant (known ReadBinary kept old c []) ≡ Some file → (is_card_access (Some file) || is_some old.pace) ≡ true → nat_lt 1 file ≡ false → option_map (λ bytes. length bytes) (bytes_of_file kept (Some file)) ≡ Some size → nat_le (offset_meant c) size ≡ true → first_failed (kind_rules ++ answer_rules ++ commit_rules ++ proof_rules) (known ReadBinary kept old c []) ≡ None
 read_passes kept old c file size empty current meant pace group there offset =
     let present = is_there (bytes_of_file kept (Some file)) size there in
     let long = long_so (bytes_of_file kept (Some file)) size there in

@@ -9,7 +9,7 @@ use Rattle.eid_model.specs.declared.kind.Kind.TheVariants.{SelectApplication, Se
 use Rattle.eid_model.specs.Kinds.{application_id, file_of_id}
 use Rattle.eid_model.specs.Runs.{Idle, entered}
 use Rattle.eid_model.specs.Sessions.{State, number_of_two}
-use Rattle.eid_model.specs.Rules.{kind_rules, answer_rules, proof_rules, first_failed}
+use Rattle.eid_model.specs.Rules.{kind_rules, answer_rules, commit_rules, proof_rules, first_failed}
 use Rattle.eid_chip.specs.Transitions.{state_carried_out, two_messages_later}
 use Rattle.eid_chip.specs.Steps.{known}
 
@@ -34,13 +34,13 @@ pub second_holds : (a b : Bool) → b ≡ true → (a || b) ≡ true
 second_holds true b e = refl
 second_holds false b e = e
 
-pub application_passes : (kept : FullRecord) (old : State) (c : PlainCommand) → nat_le 1 (length c.body) ≡ true → nat_le (length c.body) 16 ≡ true → bytes_eq c.body application_id ≡ true → first_failed (kind_rules ++ answer_rules ++ proof_rules) (known SelectApplication kept old c []) ≡ None
+pub application_passes : (kept : FullRecord) (old : State) (c : PlainCommand) → nat_le 1 (length c.body) ≡ true → nat_le (length c.body) 16 ≡ true → bytes_eq c.body application_id ≡ true → first_failed (kind_rules ++ answer_rules ++ commit_rules ++ proof_rules) (known SelectApplication kept old c []) ≡ None
 application_passes kept old c some few same = rw (some, few, same) refl
 
-pub master_file_passes : (kept : FullRecord) (old : State) (c : PlainCommand) → (length c.body == 0 || bytes_eq c.body (0x3F ∷ 0x00 ∷ [])) ≡ true → first_failed (kind_rules ++ answer_rules ++ proof_rules) (known SelectMasterFile kept old c []) ≡ None
+pub master_file_passes : (kept : FullRecord) (old : State) (c : PlainCommand) → (length c.body == 0 || bytes_eq c.body (0x3F ∷ 0x00 ∷ [])) ≡ true → first_failed (kind_rules ++ answer_rules ++ commit_rules ++ proof_rules) (known SelectMasterFile kept old c []) ≡ None
 master_file_passes kept old c formed = rw formed refl
 
-pub file_passes : (kept : FullRecord) (old : State) (c : PlainCommand) (file : ℕ) → (length c.body == 2) ≡ true → file_of_id (number_of_two c.body) ≡ Some file → first_failed (kind_rules ++ answer_rules ++ proof_rules) (known SelectFile kept old c []) ≡ None
+pub file_passes : (kept : FullRecord) (old : State) (c : PlainCommand) (file : ℕ) → (length c.body == 2) ≡ true → file_of_id (number_of_two c.body) ≡ Some file → first_failed (kind_rules ++ answer_rules ++ commit_rules ++ proof_rules) (known SelectFile kept old c []) ≡ None
 file_passes kept old c file two named = rw (two, named) refl
 
 -- what they leave

@@ -1,11 +1,13 @@
 //! The management of the PIN by RESET RETRY COUNTER (BSI TR-03110-3), and what commits one effect.
 ghost use Rattle.std.specs.Prelude.{◌≡◌, ◌≤◌, [], true, false, IfSome, IfNone, Option, Some};
+ghost use Rattle.std.specs.List.{list_all};
 ghost use Rattle.arrayvec.specs.ArrayVec.{array_vec_len};
 ghost use Rattle.eid_apdu.specs.Answer.{plain_reply};
 ghost use Rattle.eid_apdu.specs.Command.{PlainCommand, plain_command};
 ghost use Rattle.eid_copro.specs.Seen.{CoproSeen};
 ghost use Rattle.eid_record.specs.Effect.{CanApply};
 ghost use Rattle.eid_record.specs.EffectView.{effect_view};
+ghost use Rattle.eid_record.specs.Reading.{is_ascii_digit};
 ghost use Rattle.eid_record.specs.Valid.{AreDigits};
 ghost use Rattle.eid_sm.specs.Keys.{ChannelState};
 ghost use Rattle.eid_store.specs.Store as stored;
@@ -32,12 +34,22 @@ pub const LAST_NUMBER: u32 = 4_294_967_293;
 /// How many digits a PIN has.
 const PIN_SIZE: usize = 6;
 
+/// Whether these bytes are ASCII digits.
+fn are_digits(bytes: &[u8]) -> bool
+    ensures { result ≡ list_all is_ascii_digit bytes.now }
+{
+    bytes.iter().all(|byte| byte.is_ascii_digit())
+}
+
 /// The PIN that a body is, where it is one.
 fn pin_in(body: &[u8]) -> Option<[u8; PIN_SIZE]>
     ensures found { IfSome result (λ pin. (pin ≡ body.now) × AreDigits 6 pin × (is_formed (Some Kind.ChangePin) body.now ≡ true)) }
     ensures none { IfNone result (is_formed (Some Kind.ChangePin) body.now ≡ false) }
 {
-    if body.len() != PIN_SIZE || !body.iter().all(|byte| byte.is_ascii_digit()) {
+    if body.len() != PIN_SIZE {
+        return None;
+    }
+    if !are_digits(body) {
         return None;
     }
     let mut pin = [0; PIN_SIZE];

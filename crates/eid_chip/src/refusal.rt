@@ -1,5 +1,5 @@
 //! The refusals, each with its rule and its status.
-ghost use Rattle.std.specs.Prelude.{◌≡◌, ◌+◌, ◌<◌};
+ghost use Rattle.std.specs.Prelude.{◌≡◌, ◌+◌};
 ghost use Rattle.eid_chip.specs.Steps.{refusal, start_refused};
 
 use eid_base::{Rule, Status};
@@ -145,7 +145,6 @@ pub const WRONG_TOKEN: Refusal = Refusal {
 
 /// The token of the PIN is wrong, and so many tries are left.
 pub fn wrong_pin(tries: u8) -> Refusal
-    requires { tries < 16 }
     ensures { refusal result ≡ record { rule = 55; status = 0x63C0 + tries } }
 {
     Refusal {

@@ -224,6 +224,11 @@ to_commit (Some ChangePin) s = SetPin s.command.body ∷ []
 to_commit (Some UnblockPin) s = Unblock (was_with is_puk s.state.pace) ∷ []
 to_commit (Some NoStep) s = []
 
+-- nothing is to be committed
+abbrev pub are_none : List PlainEffect → Bool
+are_none [] = true
+are_none (effect ∷ later) = false
+
 -- the kinds that may commit something
 abbrev pub committing : List Kind
 committing = MutualAuthentication ∷ ChangePin ∷ UnblockPin ∷ []
@@ -339,7 +344,7 @@ commit_rules =
       number = 54;
       status = fixed 0x6581;
       kinds = committing;
-      holds = λ s. length (to_commit s.kind s) == 0 || nat_le s.kept.fields.number LAST_NUMBER;
+      holds = λ s. are_none (to_commit s.kind s) || nat_le s.kept.fields.number LAST_NUMBER;
     } ∷ []
 
 -- whether what the terminal proves is right

@@ -1,16 +1,76 @@
--- No kind of this stage commits.
-use Rattle.std.proofs.Common.{sym, subst}
+-- The kinds that never commit leave all but the coprocessor as it was, and those without questions leave that too.
+use Rattle.std.proofs.Common.{◌≡◌, refl, ap, sym, ◌∙◌}
 use Rattle.eid_apdu.specs.Command.{plain_command}
 use Rattle.eid_apdu.specs.Answer.{plain_reply}
-use Rattle.eid_chip.specs.Worlds.{world}
-use Rattle.eid_chip.specs.declared.reaction.Ending.{Ending}
-use Rattle.eid_chip.specs.Steps.{Performed}
-use Rattle.eid_chip.proofs.Outcomes.{performed}
+use Rattle.eid_base.specs.declared.codes.Rule.{Rule}
+use Rattle.eid_model.specs.declared.kind.Kind.TheVariants.{SelectApplication, SelectMasterFile, SelectFile, ReadBinary, SelectPace, EncryptedNonce, MapNonce, PerformKeyAgreement, NoStep}
+use Rattle.eid_chip.specs.Held.{held}
+use Rattle.eid_chip.specs.States.{state}
+use Rattle.eid_chip.proofs.HeldFiles.{held_fields}
+use Rattle.eid_chip.proofs.Outcomes.{settled}
+use Rattle.eid_chip.proofs.Unasked.{unasked, no_step}
 use Rattle.eid_chip.proofs.chip.perform.Goals as goal
 
-pub returns-clause-performed : goal.returns-clause-performed
-returns-clause-performed g c =
-    let old = world (g.C.Coprocessor.seen c.args.copro.now) c.args.store.now (g.E.Eeprom.device c.args.cells.now) (g.E.Eeprom.cells c.args.cells.now) in
-    let new = world (g.C.Coprocessor.seen c.carry_out.new.copro) c.args.store.now (g.E.Eeprom.device c.args.cells.now) (g.E.Eeprom.cells c.args.cells.now) in
-    subst (λ (e : Ending). Performed c.args.kind c.args.session (plain_command c.args.c.now) e (plain_reply c.carry_out.new.reply) old new) (sym c.uncommitted.ensures)
-    (performed c.args.kind c.args.session (plain_command c.args.c.now) c.carry_out.result (plain_reply c.carry_out.new.reply) _ _ c.args.store.now _ _ c.requires.mounted c.carry_out.ensures.answers)
+pub returns-in-SelectApplication-clause-performed : goal.returns-in-SelectApplication-clause-performed
+returns-in-SelectApplication-clause-performed g c =
+    let cells = g.E.Eeprom.cells c.args.cells.now in
+    let command = plain_command c.args.c.now in
+    settled _ SelectApplication c.args.session command c.uncommitted.result c.select_application.result (plain_reply c.select_application.new.reply) (g.C.Coprocessor.seen c.args.copro.now) (g.C.Coprocessor.seen c.args.copro.now) c.args.store.now (g.E.Eeprom.device c.args.cells.now) cells
+    c.in-SelectApplication.is (λ s. refl) c.requires.mounted c.uncommitted.ensures (unasked (g.C.Coprocessor.seen c.args.copro.now) SelectApplication (held cells) c.args.session command _ _ (c.select_application.ensures.told (held cells)))
+
+pub returns-in-SelectMasterFile-clause-performed : goal.returns-in-SelectMasterFile-clause-performed
+returns-in-SelectMasterFile-clause-performed g c =
+    let cells = g.E.Eeprom.cells c.args.cells.now in
+    let command = plain_command c.args.c.now in
+    settled _ SelectMasterFile c.args.session command c.uncommitted-in-SelectMasterFile.result c.select_master_file.result (plain_reply c.select_master_file.new.reply) (g.C.Coprocessor.seen c.args.copro.now) (g.C.Coprocessor.seen c.args.copro.now) c.args.store.now (g.E.Eeprom.device c.args.cells.now) cells
+    c.in-SelectMasterFile.is (λ s. refl) c.requires.mounted c.uncommitted-in-SelectMasterFile.ensures (unasked (g.C.Coprocessor.seen c.args.copro.now) SelectMasterFile (held cells) c.args.session command _ _ (c.select_master_file.ensures.told (held cells)))
+
+pub returns-in-SelectFile-clause-performed : goal.returns-in-SelectFile-clause-performed
+returns-in-SelectFile-clause-performed g c =
+    let cells = g.E.Eeprom.cells c.args.cells.now in
+    let command = plain_command c.args.c.now in
+    settled _ SelectFile c.args.session command c.uncommitted-in-SelectFile.result c.select_file.result (plain_reply c.select_file.new.reply) (g.C.Coprocessor.seen c.args.copro.now) (g.C.Coprocessor.seen c.args.copro.now) c.args.store.now (g.E.Eeprom.device c.args.cells.now) cells
+    c.in-SelectFile.is (λ s. refl) c.requires.mounted c.uncommitted-in-SelectFile.ensures (unasked (g.C.Coprocessor.seen c.args.copro.now) SelectFile (held cells) c.args.session command _ _ (c.select_file.ensures.told (held cells)))
+
+pub returns-in-ReadBinary-clause-performed : goal.returns-in-ReadBinary-clause-performed
+returns-in-ReadBinary-clause-performed g c =
+    let cells = g.E.Eeprom.cells c.args.cells.now in
+    let command = plain_command c.args.c.now in
+    settled _ ReadBinary c.args.session command c.uncommitted-in-ReadBinary.result c.read_binary.result (plain_reply c.read_binary.new.reply) (g.C.Coprocessor.seen c.args.copro.now) (g.C.Coprocessor.seen c.args.copro.now) c.args.store.now (g.E.Eeprom.device c.args.cells.now) cells
+    c.in-ReadBinary.is (λ s. refl) c.requires.mounted c.uncommitted-in-ReadBinary.ensures (unasked (g.C.Coprocessor.seen c.args.copro.now) ReadBinary (held cells) c.args.session command _ _ c.read_binary.ensures.told)
+
+pub returns-in-SelectPace-clause-performed : goal.returns-in-SelectPace-clause-performed
+returns-in-SelectPace-clause-performed g c =
+    let cells = g.E.Eeprom.cells c.args.cells.now in
+    let command = plain_command c.args.c.now in
+    let fields = held_fields c.args.store.now (g.E.Eeprom.device c.args.cells.now) cells c.requires.mounted ∙ sym c.kept.ensures in
+    settled _ SelectPace c.args.session command c.uncommitted-in-SelectPace.result c.select_pace.result (plain_reply c.select_pace.new.reply) (g.C.Coprocessor.seen c.args.copro.now) (g.C.Coprocessor.seen c.args.copro.now) c.args.store.now (g.E.Eeprom.device c.args.cells.now) cells
+    c.in-SelectPace.is (λ s. refl) c.requires.mounted c.uncommitted-in-SelectPace.ensures (unasked (g.C.Coprocessor.seen c.args.copro.now) SelectPace (held cells) c.args.session command _ _ (λ channel. c.select_pace.ensures.told (held cells) channel fields))
+
+pub returns-in-EncryptedNonce-clause-performed : goal.returns-in-EncryptedNonce-clause-performed
+returns-in-EncryptedNonce-clause-performed g c =
+    let cells = g.E.Eeprom.cells c.args.cells.now in
+    let command = plain_command c.args.c.now in
+    settled _ EncryptedNonce c.args.session command c.uncommitted-in-EncryptedNonce.result c.encrypted_nonce.result (plain_reply c.encrypted_nonce.new.reply) (g.C.Coprocessor.seen c.args.copro.now) (g.C.Coprocessor.seen c.encrypted_nonce.new.copro) c.args.store.now (g.E.Eeprom.device c.args.cells.now) cells
+    c.in-EncryptedNonce.is (λ s. refl) c.requires.mounted c.uncommitted-in-EncryptedNonce.ensures c.encrypted_nonce.ensures.told
+
+pub returns-in-MapNonce-clause-performed : goal.returns-in-MapNonce-clause-performed
+returns-in-MapNonce-clause-performed g c =
+    let cells = g.E.Eeprom.cells c.args.cells.now in
+    let command = plain_command c.args.c.now in
+    settled _ MapNonce c.args.session command c.uncommitted-in-MapNonce.result c.map_nonce.result (plain_reply c.map_nonce.new.reply) (g.C.Coprocessor.seen c.args.copro.now) (g.C.Coprocessor.seen c.map_nonce.new.copro) c.args.store.now (g.E.Eeprom.device c.args.cells.now) cells
+    c.in-MapNonce.is (λ s. refl) c.requires.mounted c.uncommitted-in-MapNonce.ensures (c.map_nonce.ensures.told (held cells))
+
+pub returns-in-PerformKeyAgreement-clause-performed : goal.returns-in-PerformKeyAgreement-clause-performed
+returns-in-PerformKeyAgreement-clause-performed g c =
+    let cells = g.E.Eeprom.cells c.args.cells.now in
+    let command = plain_command c.args.c.now in
+    settled _ PerformKeyAgreement c.args.session command c.uncommitted-in-PerformKeyAgreement.result c.perform_key_agreement.result (plain_reply c.perform_key_agreement.new.reply) (g.C.Coprocessor.seen c.args.copro.now) (g.C.Coprocessor.seen c.perform_key_agreement.new.copro) c.args.store.now (g.E.Eeprom.device c.args.cells.now) cells
+    c.in-PerformKeyAgreement.is (λ s. refl) c.requires.mounted c.uncommitted-in-PerformKeyAgreement.ensures (c.perform_key_agreement.ensures.told (held cells))
+
+pub returns-in-NoStep-clause-performed : goal.returns-in-NoStep-clause-performed
+returns-in-NoStep-clause-performed g c =
+    let cells = g.E.Eeprom.cells c.args.cells.now in
+    let command = plain_command c.args.c.now in
+    settled _ NoStep c.args.session command c.uncommitted-in-NoStep.result c.refused.result (plain_reply c.refused.new.reply) (g.C.Coprocessor.seen c.args.copro.now) (g.C.Coprocessor.seen c.args.copro.now) c.args.store.now (g.E.Eeprom.device c.args.cells.now) cells
+    c.in-NoStep.is (λ s. refl) c.requires.mounted c.uncommitted-in-NoStep.ensures (unasked (g.C.Coprocessor.seen c.args.copro.now) NoStep (held cells) c.args.session command _ _ (λ channel. no_step _ (state c.args.session channel) command c.refused.result (plain_reply c.refused.new.reply) (ap (λ (r : Rule). r.0) c.refused.ensures.rule) c.refused.ensures.reply (c.refused.ensures.left channel)))

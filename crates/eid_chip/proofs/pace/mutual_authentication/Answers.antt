@@ -1,24 +1,66 @@
--- The token is right, and the last reply is sent.
-use Rattle.std.proofs.Common.{◌++◌, refl, ap, sym, ◌∙◌}
+-- A body of another form is refused; the tokens of the PIN commit, those of the other passwords do not.
+use Rattle.std.proofs.Common.{◌≡◌, [], refl, ap, sym, ◌∙◌, subst}
 use Rattle.eid_apdu.specs.Command.{plain_command}
 use Rattle.eid_apdu.specs.Answer.{plain_reply}
-use Rattle.eid_record.specs.Plain.{PlainRecord}
-use Rattle.eid_tlv.specs.Objects.{object}
-use Rattle.eid_model.specs.Answers.{data_alone, previous_name}
-use Rattle.eid_pace.specs.View.{agreed_view, done_view}
+use Rattle.eid_base.specs.declared.codes.Rule.{Rule}
+use Rattle.eid_pace.proofs.Unasked.{not_asked}
+use Rattle.eid_record.specs.declared.fields.Password.{Password}
+use Rattle.eid_password.specs.Passwords.{is_pin}
+use Rattle.eid_model.specs.declared.kind.Kind.TheVariants.{MutualAuthentication}
+use Rattle.eid_model.specs.Rules.{kind_rules}
+use Rattle.eid_model.proofs.Books.{nothing_due_by}
 use Rattle.eid_chip.specs.Held.{held}
-use Rattle.eid_chip.specs.States.{state, phase_of}
+use Rattle.eid_chip.specs.States.{state}
+use Rattle.eid_chip.specs.Steps.{Performed, SendsToken, at_tokens, known}
+use Rattle.eid_chip.specs.Worlds.{world}
+use Rattle.eid_chip.specs.declared.session.Run.{Run}
+use Rattle.eid_chip.specs.declared.session.Session.{Session}
 use Rattle.eid_chip.proofs.HeldFiles.{held_fields}
-use Rattle.eid_chip.proofs.PaceSteps.{authenticated}
+use Rattle.eid_chip.proofs.Outcomes.{kind_refused, performed_unasked}
+use Rattle.eid_chip.proofs.PinSteps.{not_pin}
 use Rattle.eid_chip.proofs.pace.mutual_authentication.Goals as goal
 
-pub returns-clause-told : goal.returns-clause-told
-returns-clause-told g c channel =
+pub returns-in_default-clause-performed : goal.returns-in_default-clause-performed
+returns-in_default-clause-performed g c = λ copro.
     let cells = g.E.Eeprom.cells c.args.cells.now in
-    let body = c.in-Some.ensures.found in
-    let fields = c.kept.ensures ∙ sym (held_fields c.args.store.now (g.E.Eeprom.device c.args.cells.now) cells c.requires.fits) in
-    let own = c.in-Ok.given.1 in
-    let reply = c.put_token.ensures.plain ∙ ap (λ (r : PlainRecord). data_alone (object 0x7C (object 0x86 own ++ object 0x87 r.current.name ++ previous_name r.previous))) fields in
-    let idle = c.idle-2.ensures in
-    authenticated (held cells) (state c.args.session channel) (plain_command c.args.c.now) (agreed_view c.in-Agreed.agreed) c.in-Some.token (done_view c.in-Ok.given.0) own _ (plain_reply c.put_token.new.reply) (ap phase_of c.in-Agreed.is) body.0 body.1 c.in-Ok.ensures refl reply
-    (rw (idle.0, idle.1, c.last_pace.ensures, c.channel_of.ensures) refl)
+    let command = plain_command c.args.c.now in
+    let said = plain_reply c.refused.new.reply in
+    performed_unasked MutualAuthentication c.args.session command c.uncommitted.result c.refused.result said copro c.args.store.now (g.E.Eeprom.device c.args.cells.now) cells c.requires.fits c.uncommitted.ensures
+    (λ channel. kind_refused MutualAuthentication (held cells) (state c.args.session channel) command (record { rule = 10; status = 0x6A80 }) c.refused.result said (rw c.in_default.ensures.none refl) refl
+    (ap (λ (r : Rule). r.0) c.refused.ensures.rule) c.refused.ensures.reply (c.refused.ensures.left channel))
+
+pub returns-in-Pin-clause-performed : goal.returns-in-Pin-clause-performed
+returns-in-Pin-clause-performed g c = λ copro.
+    let device = g.E.Eeprom.device in
+    let cells = g.E.Eeprom.cells in
+    let command = plain_command c.args.c.now in
+    let said = plain_reply c.prove_pin.new.reply in
+    let old = world copro c.args.store.now (device c.args.cells.now) (cells c.args.cells.now) in
+    let new = world copro c.prove_pin.new.store (device c.prove_pin.new.cells) (cells c.prove_pin.new.cells) in
+    let same : c.args.session ≡ at_tokens c.in-Agreed.agreed c.args.session.memory = ap (λ (r : Run). record { run = r; memory = c.args.session.memory }) c.in-Agreed.is in
+    let sends : SendsToken command c.in-Some.token = record { formed = c.in-Some.ensures.found.1; is = c.in-Some.ensures.found.0 } in
+    subst (λ (s : Session). Performed MutualAuthentication s command c.prove_pin.result said old new) (sym same) (record {
+      asks = [];
+      were_asked = not_asked copro;
+      ended = λ channel. c.prove_pin.ensures.ended copro channel command sends;
+      layout = c.prove_pin.ensures.layout;
+    })
+
+pub prove-requires : goal.prove-requires
+prove-requires g c = record { other = not_pin c.in-Agreed.agreed.choice.password (λ is. c.in_default-password.not-Pin (c.password.ensures ∙ is)) }
+
+pub returns-in_default-password-clause-performed : goal.returns-in_default-password-clause-performed
+returns-in_default-password-clause-performed g c = λ copro.
+    let device = g.E.Eeprom.device in
+    let cells = g.E.Eeprom.cells in
+    let command = plain_command c.args.c.now in
+    let said = plain_reply c.prove.new.reply in
+    let w = world copro c.args.store.now (device c.args.cells.now) (cells c.args.cells.now) in
+    let full = held (cells c.args.cells.now) in
+    let other = not_pin c.in-Agreed.agreed.choice.password (λ is. c.in_default-password.not-Pin (c.password.ensures ∙ is)) in
+    let same : c.args.session ≡ at_tokens c.in-Agreed.agreed c.args.session.memory = ap (λ (r : Run). record { run = r; memory = c.args.session.memory }) c.in-Agreed.is in
+    let sends : SendsToken command c.in-Some.token = record { formed = c.in-Some.ensures.found.1; is = c.in-Some.ensures.found.0 } in
+    let fields = held_fields c.args.store.now (device c.args.cells.now) (cells c.args.cells.now) c.requires.fits ∙ sym c.kept.ensures in
+    subst (λ (s : Session). Performed MutualAuthentication s command c.uncommitted-in_default-password.result said w w) (sym same)
+    (performed_unasked MutualAuthentication (at_tokens c.in-Agreed.agreed c.args.session.memory) command c.uncommitted-in_default-password.result c.prove.result said copro c.args.store.now (device c.args.cells.now) (cells c.args.cells.now) c.requires.fits c.uncommitted-in_default-password.ensures
+    (λ channel. (nothing_due_by kind_rules (known MutualAuthentication full (state (at_tokens c.in-Agreed.agreed c.args.session.memory) channel) command []) (rw other refl), c.prove.ensures.told full channel command fields sends)))

@@ -1,0 +1,54 @@
+-- How each return ends: by the commit number, and by whether the commit was cut.
+use Rattle.std.proofs.Common.{◌≡◌, ℕ, ◌≤◌, [], refl, ap, sym, ◌∙◌, subst, arith}
+use Rattle.eid_apdu.specs.Answer.{plain_reply}
+use Rattle.eid_base.specs.declared.codes.Rule.{Rule}
+use Rattle.eid_record.specs.Plain.{PlainRecord}
+use Rattle.eid_record.specs.EffectView.{effect_view}
+use Rattle.eid_chip.specs.Held.{held}
+use Rattle.eid_chip.specs.States.{state}
+use Rattle.eid_chip.specs.Steps.{IsEndedByKind}
+use Rattle.eid_chip.specs.Worlds.{world}
+use Rattle.eid_chip.specs.declared.reaction.Ending.{Ending}
+use Rattle.eid_chip.proofs.Commits.{has_none, has_more, has_cut}
+use Rattle.eid_chip.proofs.HeldFiles.{held_fields}
+use Rattle.eid_chip.proofs.PinSteps.{one_over, one_cut, one_committed}
+use Rattle.eid_chip.proofs.pin.commit_one.Goals as goal
+
+pub returns-then-kept-gt-LAST_NUMBER-clause-ended : goal.returns-then-kept-gt-LAST_NUMBER-clause-ended
+returns-then-kept-gt-LAST_NUMBER-clause-ended g c = λ copro channel kind command one.
+    let device = g.E.Eeprom.device in
+    let cells = g.E.Eeprom.cells in
+    let full = held (cells c.args.cells.now) in
+    let number : full.fields.number ≡ c.kept.result.now.number = ap (λ (r : PlainRecord). r.number) (held_fields c.args.store.now (device c.args.cells.now) (cells c.args.cells.now) c.requires.fits ∙ sym c.kept.ensures) in
+    let w = world copro c.args.store.now (device c.args.cells.now) (cells c.args.cells.now) in
+    let said = plain_reply c.refused.new.reply in
+    subst (λ (e : Ending). IsEndedByKind kind (state c.args.session channel) command [] e said w w) (sym c.uncommitted.ensures)
+    (one_over kind c.args.session channel command (effect_view c.args.effect.now) c.refused.result said copro c.args.store.now (device c.args.cells.now) (cells c.args.cells.now)
+    c.requires.fits one (omega (arith, number, c.if-kept-gt-LAST_NUMBER.true)) (ap (λ (r : Rule). r.0) c.refused.ensures.rule) c.refused.ensures.reply (c.refused.ensures.left channel))
+
+pub returns-in_default-clause-ended : goal.returns-in_default-clause-ended
+returns-in_default-clause-ended g c = λ copro channel kind command one.
+    let device = g.E.Eeprom.device in
+    let cells = g.E.Eeprom.cells in
+    let full = held (cells c.args.cells.now) in
+    let number : full.fields.number ≡ c.kept.result.now.number = ap (λ (r : PlainRecord). r.number) (held_fields c.args.store.now (device c.args.cells.now) (cells c.args.cells.now) c.requires.fits ∙ sym c.kept.ensures) in
+    let effect = effect_view c.args.effect.now in
+    let left = has_cut effect 0 full (device c.args.cells.now) c.args.store.now (device c.args.cells.now) (device c.commit.new.cells) (cells c.args.cells.now) (cells c.commit.new.cells) c.commit.result c.in_default.field-0 (g.met.E.Eeprom.count c.args.cells.now) (has_none c.args.store.now (device c.args.cells.now) (cells c.args.cells.now) c.requires.fits) c.in_default.is c.in_default.ensures.cut c.commit.ensures.cost in
+    let said = plain_reply c.lost.new.reply in
+    subst (λ (e : Ending). IsEndedByKind kind (state c.args.session channel) command [] e said (world copro c.args.store.now (device c.args.cells.now) (cells c.args.cells.now)) (world copro c.commit.new.self (device c.commit.new.cells) (cells c.commit.new.cells))) (sym c.lost.ensures.ending)
+    (one_cut kind c.args.session channel command effect said copro c.args.store.now c.commit.new.self (device c.args.cells.now) (device c.commit.new.cells) (cells c.args.cells.now) (cells c.commit.new.cells)
+    one (omega (arith, number, c.if-kept-gt-LAST_NUMBER.false)) left)
+
+pub returns-clause-ended : goal.returns-clause-ended
+returns-clause-ended g c = λ copro channel kind command one.
+    let device = g.E.Eeprom.device in
+    let cells = g.E.Eeprom.cells in
+    let full = held (cells c.args.cells.now) in
+    let number : full.fields.number ≡ c.kept.result.now.number = ap (λ (r : PlainRecord). r.number) (held_fields c.args.store.now (device c.args.cells.now) (cells c.args.cells.now) c.requires.fits ∙ sym c.kept.ensures) in
+    let effect = effect_view c.args.effect.now in
+    let has = has_more effect 0 full (device c.args.cells.now) c.args.store.now c.commit.new.self (device c.args.cells.now) (device c.commit.new.cells) (cells c.args.cells.now) (cells c.commit.new.cells) c.commit.result c.in-Ok.field-0 (g.met.E.Eeprom.count c.args.cells.now) (has_none c.args.store.now (device c.args.cells.now) (cells c.args.cells.now) c.requires.fits) c.in-Ok.is c.in-Ok.ensures.committed c.in-Ok.ensures.fits c.commit.ensures.cost in
+    let said = plain_reply c.carried_out.new.reply in
+    let did = c.carried_out.ensures.did in
+    subst (λ (e : Ending). IsEndedByKind kind (state c.args.session channel) command [] e said (world copro c.args.store.now (device c.args.cells.now) (cells c.args.cells.now)) (world copro c.commit.new.self (device c.commit.new.cells) (cells c.commit.new.cells))) (sym c.committed.ensures)
+    (one_committed kind c.args.session c.without_run.result channel command effect c.carried_out.result said copro c.args.store.now c.commit.new.self (device c.args.cells.now) (device c.commit.new.cells) (cells c.args.cells.now) (cells c.commit.new.cells)
+    one (omega (arith, number, c.if-kept-gt-LAST_NUMBER.false)) has did.0 did.1 did.2 did.3 c.without_run.ensures)
