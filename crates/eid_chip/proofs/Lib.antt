@@ -12,3 +12,4 @@ pub mod Refusals
 pub mod Commits
 pub mod PinSteps
 pub mod Management
+pub mod Tries

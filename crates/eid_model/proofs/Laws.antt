@@ -210,16 +210,24 @@ chose_goes (Some choice) e = cc
 
 -- What a kind carried out has to be, that a PACE with the PIN goes on: its first step, or one that goes on from such a
 -- phase. It commits nothing.
-record GoesOn (kind : Kind) (before : Phase) : Type 0 where
-  commits_nothing : (s : Situation) → to_commit (Some kind) s ≡ []
-  by_step : ((kind ≡ EncryptedNonce) × (starts_pin before ≡ true)) ⊎ (goes_on_with_pin before ≡ true)
+pub record GoesOn (kind : Kind) (before : Phase) : Type 0 where
+  pub commits_nothing : (s : Situation) → to_commit (Some kind) s ≡ []
+  pub by_step : ((kind ≡ EncryptedNonce) × (starts_pin before ≡ true)) ⊎ (goes_on_with_pin before ≡ true)
+
+pub goes_entered : (kind : Kind) (c : PlainCommand) (given : List Answer) (before : Phase) → goes_on_with_pin (entered kind c given before) ≡ true → GoesOn kind before
+unfolding entered
+goes_entered SelectPace c given before e = absurd (chose_goes (choice_in c.body) e)
+goes_entered EncryptedNonce c given before e = record { commits_nothing = λ s. refl; by_step = inl (refl, nonce_goes given before e) }
+goes_entered MapNonce c given before e = record { commits_nothing = λ s. refl; by_step = inr (base_goes given before e) }
+goes_entered PerformKeyAgreement c given before e = record { commits_nothing = λ s. refl; by_step = inr (secret_goes (data_in c.body) given before e) }
+goes_entered kind c given before e = absurd (cc)
 
 goes_by : (kind : Kind) (c : PlainCommand) (given : List Answer) (steps : List Step) → goes_on_with_pin (phase (continued (Some kind) (Some c) given steps)) ≡ true → GoesOn kind (phase steps)
 unfolding entered
 goes_by SelectPace c given steps e = absurd (chose_goes (choice_in c.body) e)
-goes_by EncryptedNonce c given steps e = record { commits_nothing = λ s. refl; by_step = inl (refl, nonce_goes given (phase steps) e) }
-goes_by MapNonce c given steps e = record { commits_nothing = λ s. refl; by_step = inr (base_goes given (phase steps) e) }
-goes_by PerformKeyAgreement c given steps e = record { commits_nothing = λ s. refl; by_step = inr (secret_goes (data_in c.body) given (phase steps) e) }
+goes_by EncryptedNonce c given steps e = goes_entered EncryptedNonce c given (phase steps) e
+goes_by MapNonce c given steps e = goes_entered MapNonce c given (phase steps) e
+goes_by PerformKeyAgreement c given steps e = goes_entered PerformKeyAgreement c given (phase steps) e
 goes_by kind c given steps e = absurd (cc)
 
 -- The newest moment carried out such a kind.

@@ -1,5 +1,5 @@
 -- The chip answered, and keeps its store, the new session and the channel; or it was lost in a commit, and is off.
-use Rattle.std.proofs.Common.{◌≡◌, sym, ◌∙◌, ap, Option, Some, None}
+use Rattle.std.proofs.Common.{◌≡◌, sym, ◌∙◌, ap, subst, Option, Some, None}
 use Rattle.std.specs.Prelude.{option_map, if◌then◌else◌}
 use Rattle.std.specs.Option.{option_or}
 use Rattle.eid_apdu.specs.Answer.{plain_reply}
@@ -7,8 +7,10 @@ use Rattle.eid_sm.specs.Keys.{ChannelState}
 use Rattle.eid_model.specs.Moments.{ends_session_by}
 use Rattle.eid_chip.specs.declared.reaction.Ending.{Ending}
 use Rattle.eid_chip.specs.Worlds.{world}
-use Rattle.eid_chip.specs.States.{ChipView, running_view}
+use Rattle.eid_chip.specs.States.{ChipView, RunningView, running_view}
+use Rattle.eid_chip.specs.Fits.{IsSoundRunning}
 use Rattle.eid_chip.specs.Steps.{message_in, sent_next, rule_of}
+use Rattle.eid_chip.proofs.Tries.{response_stays}
 use Rattle.eid_chip.proofs.Chips.{handles_answer, handles_loss, handles_silence, sent_so, kept_channel}
 use Rattle.eid_chip.proofs.chip.Chip.handle_in.Goals as goal
 
@@ -48,3 +50,14 @@ returns-in-Lost-clause-handles g c =
     let now = world (g.C.Coprocessor.seen c.respond_any-plain.new.copro) c.respond_any-plain.new.store (g.E.Eeprom.device c.respond_any-plain.new.cells) (g.E.Eeprom.cells c.respond_any-plain.new.cells) in
     handles_loss c.args.self.now running (option_map running_view c.replace.new.dest) c.args.bytes.now _ c.respond_any-plain.result.ending c.in-Lost.finished
     (plain_reply c.respond_any-plain.new.exchange.reply) was now alive c.respond_any-plain.ensures.responds c.in-Lost.is (ap (option_map running_view) c.replace.ensures.after)
+
+pub go_on-requires-clause-try_left : goal.go_on-requires-clause-try_left
+go_on-requires-clause-try_left g c =
+    let running = c.in-Some.running in
+    let was = world (g.C.Coprocessor.seen c.args.copro.now) running.store (g.E.Eeprom.device c.args.cells.now) (g.E.Eeprom.cells c.args.cells.now) in
+    let now = world (g.C.Coprocessor.seen c.respond_any-plain.new.copro) c.respond_any-plain.new.store (g.E.Eeprom.device c.respond_any-plain.new.cells) (g.E.Eeprom.cells c.respond_any-plain.new.cells) in
+    let alive : c.args.self.now.running ≡ Some (running_view running) =
+    ap (λ (v : ChipView). v.running) (sym c.self.view_is) ∙ ap (option_map running_view) (sym c.replace.ensures.value ∙ c.in-Some.is) in
+    let mounted = subst (λ (l : Option RunningView). IsSoundRunning l (g.E.Eeprom.device c.args.cells.now) (g.E.Eeprom.cells c.args.cells.now)) alive c.requires.sound in
+    response_stays running.session running.channel c.args.bytes.now _ c.respond_any-plain.result.ending c.in-Answered.reaction c.in-Answered.finished (plain_reply c.respond_any-plain.new.exchange.reply) was now
+    mounted running.try_left c.respond_any-plain.ensures.responds c.in-Answered.is

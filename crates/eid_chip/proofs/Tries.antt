@@ -1,0 +1,114 @@
+-- A PACE with the PIN goes on only while a try is left.
+use Rattle.std.proofs.Common.{◌≡◌, ℕ, ◌≤◌, Bool, true, false, ◌==◌, List, [], Option, Some, None, refl, sym, ap, ◌∙◌, subst, inl, inr}
+use Rattle.std.specs.Prelude.{◌⊎◌, if◌then◌else◌}
+use Rattle.std.proofs.lemmas.Bool.{leb-true, eqb-true}
+use Rattle.eid_apdu.specs.Command.{PlainCommand}
+use Rattle.eid_apdu.specs.Answer.{PlainReply}
+use Rattle.eid_copro.specs.declared.ask.Ask.{Ask}
+use Rattle.eid_copro.specs.declared.ask.Answer.{Answer}
+use Rattle.eid_record.specs.Plain.{FullRecord, PlainRecord, PlainEffect}
+use Rattle.eid_store.specs.Stands.{stands}
+use Rattle.eid_store.specs.Store as stored
+use Rattle.eid_sm.specs.Keys.{ChannelState}
+use Rattle.eid_model.specs.declared.kind.Kind.{Kind}
+use Rattle.eid_model.specs.declared.kind.Kind.TheVariants.{EncryptedNonce}
+use Rattle.eid_model.specs.Answers.{Outcome, due, outcome, situation, kind_incoming, command_of}
+use Rattle.eid_model.specs.Laws.{goes_on_with_pin}
+use Rattle.eid_model.specs.Ledger.{all_committed}
+use Rattle.eid_model.specs.Moments.{ends_session_by}
+use Rattle.eid_model.specs.Rules.{Incoming, Situation, starts_pin, to_commit}
+use Rattle.eid_model.specs.Runs.{Phase, answers_of}
+use Rattle.eid_model.specs.Sessions.{State}
+use Rattle.eid_model.proofs.Books.{nothing_due}
+use Rattle.eid_model.proofs.Compared.{is_compared, try_held}
+use Rattle.eid_model.proofs.Laws.{GoesOn, goes_entered}
+use Rattle.eid_chip.specs.Held.{held}
+use Rattle.eid_chip.specs.States.{phase_of, state}
+use Rattle.eid_chip.specs.Steps.{IsEndedByRules, Responds, outcome_seen, state_due}
+use Rattle.eid_chip.specs.Transitions.{state_answered}
+use Rattle.eid_chip.specs.Tries.{tries_pin, IsTryLeft}
+use Rattle.eid_chip.specs.Worlds.{World, IsMounted}
+use Rattle.eid_chip.specs.declared.reaction.Ending.{Ending}
+use Rattle.eid_chip.specs.declared.reaction.Ending.TheVariants.{Answered, Lost}
+use Rattle.eid_chip.specs.declared.reaction.Reaction.{Reaction}
+use Rattle.eid_chip.specs.declared.session.Run.{Run}
+use Rattle.eid_chip.specs.declared.session.Run.TheVariants as runs
+use Rattle.eid_chip.specs.declared.session.Session.{Session}
+use Rattle.eid_chip.proofs.HeldFiles.{held_is, held_fields}
+
+-- the run tries the PIN where its phase does
+phase_tries : (run : Run) → tries_pin run ≡ goes_on_with_pin (phase_of run)
+phase_tries runs.Idle = refl
+phase_tries (runs.Chosen chosen) = refl
+phase_tries (runs.NonceSent sent) = refl
+phase_tries (runs.Mapped mapped) = refl
+phase_tries (runs.Agreed agreed) = refl
+
+-- What was answered where the PACE goes on: a kind was carried out that goes on.
+record Continued (rule : ℕ) (kind : Option Kind) (before : Phase) : Type 0 where
+  carried_out : rule ≡ 0
+  which : Kind
+  is : kind ≡ Some which
+  goes : GoesOn which before
+
+continued_at : (ends : Bool) (done : Bool) (rule : ℕ) (kind : Option Kind) (c : PlainCommand) (given : List Answer) (old : State) → ends_session_by rule ≡ ends → (rule == 0) ≡ done
+    → goes_on_with_pin (state_due rule (state_answered rule kind c given old)).phase ≡ true → Continued rule kind old.phase
+continued_at true done rule kind c given old ends is e = absurd (let none : goes_on_with_pin (state_due rule (state_answered rule kind c given old)).phase ≡ false = rw ends refl in cc)
+continued_at false done rule None c given old ends is e = absurd (let none : goes_on_with_pin (state_due rule (state_answered rule None c given old)).phase ≡ false = rw ends refl in cc)
+continued_at false false rule (Some kind) c given old ends is e = absurd (let none : goes_on_with_pin (state_due rule (state_answered rule (Some kind) c given old)).phase ≡ false = rw (ends, is) refl in cc)
+continued_at false true rule (Some kind) c given old ends is e = record {
+  carried_out = eqb-true rule 0 is;
+  which = kind;
+  is = refl;
+  goes = goes_entered kind c given old.phase (rw (ends, is) at e);
+}
+
+-- a command that commits nothing leaves the fields
+fields_stay : (was now : World) → IsMounted was → IsMounted now → stands now.cells ≡ Some (held was.cells) → stored.fields_of now.store ≡ stored.fields_of was.store
+fields_stay was now before after same =
+    sym (held_fields now.store now.device now.cells after) ∙ ap (λ (f : FullRecord). f.fields) (held_is now.cells (held was.cells) same) ∙ held_fields was.store was.device was.cells before
+
+abbrev seen_at : Session → Option ChannelState → Incoming → List Ask → World → Situation
+seen_at session channel incoming asks was = situation (held was.cells) (state session channel) incoming (answers_of asks)
+
+tries_left : (session : Session) (channel : Option ChannelState) (incoming : Incoming) (asks : List Ask) (r : Reaction) (reply : PlainReply) (was now : World) → IsMounted was → IsTryLeft session.run (stored.fields_of was.store)
+    → outcome (seen_at session channel incoming asks was) ≡ outcome_seen r reply → IsMounted now → stands now.cells ≡ Some (all_committed (due (seen_at session channel incoming asks was)) (held was.cells))
+    → Continued r.rule.0 (kind_incoming (state session channel) incoming) (phase_of session.run) → 1 ≤ (stored.fields_of now.store).tries
+tries_left session channel incoming asks r reply was now mounted earlier is after leaves went = by went.goes.by_step where
+  s : Situation
+  s = seen_at session channel incoming asks was
+
+  none : due s ≡ []
+  none = nothing_due s (ap (λ (k : Option Kind). to_commit k s) went.is ∙ went.goes.commits_nothing s)
+
+  same : stored.fields_of now.store ≡ stored.fields_of was.store
+  same = fields_stay was now mounted after (leaves ∙ ap (λ (l : List PlainEffect). Some (all_committed l (held was.cells))) none)
+
+  stays : 1 ≤ (stored.fields_of was.store).tries → 1 ≤ (stored.fields_of now.store).tries
+  stays left = subst (λ (f : PlainRecord). 1 ≤ f.tries) (sym same) left
+
+  by : ((went.which ≡ EncryptedNonce) × (starts_pin (phase_of session.run) ≡ true)) ⊎ (goes_on_with_pin (phase_of session.run) ≡ true) → 1 ≤ (stored.fields_of now.store).tries
+  by (inl first) =
+      let compared : is_compared (outcome s).rule ≡ true = ap is_compared (ap (λ (o : Outcome). o.rule) is ∙ went.carried_out) in
+      let held_try = leb-true 1 (held was.cells).fields.tries (try_held s (went.is ∙ ap (λ (k : Kind). Some k) first.0) compared first.1) in
+      stays (subst (λ (f : PlainRecord). 1 ≤ f.tries) (held_fields was.store was.device was.cells mounted) held_try)
+  by (inr goes) = stays (earlier (phase_tries session.run ∙ goes))
+
+-- the tries after a command that was answered
+pub try_stays : (session : Session) (channel : Option ChannelState) (incoming : Incoming) (asks : List Ask) (r : Reaction) (finished : ℕ) (reply : PlainReply) (was now : World) → IsMounted was → IsTryLeft session.run (stored.fields_of was.store)
+    → IsEndedByRules (state session channel) incoming asks (Answered r finished) reply was now → IsTryLeft r.session.run (stored.fields_of now.store)
+try_stays session channel incoming asks r finished reply was now mounted earlier ended tries =
+    let old : State = state session channel in
+    let s : Situation = situation (held was.cells) old incoming (answers_of asks) in
+    let next : phase_of r.session.run ≡ (state_due r.rule.0 (state_answered r.rule.0 (kind_incoming old incoming) (command_of incoming) (answers_of asks) old)).phase = ap (λ (x : State). x.phase) ended.next in
+    let goes : goes_on_with_pin (state_due r.rule.0 (state_answered r.rule.0 (kind_incoming old incoming) (command_of incoming) (answers_of asks) old)).phase ≡ true =
+    ap goes_on_with_pin (sym next) ∙ sym (phase_tries r.session.run) ∙ tries in
+    let went = continued_at (ends_session_by r.rule.0) (r.rule.0 == 0) r.rule.0 (kind_incoming old incoming) (command_of incoming) (answers_of asks) old refl refl goes in
+    tries_left session channel incoming asks r reply was now mounted earlier ended.ended.1 ended.leaves.0 ended.leaves.1 went
+
+-- and so after a response
+pub response_stays : (session : Session) (channel : Option ChannelState) (bytes : List ℕ) (plain : Option PlainCommand) (ending : Ending) (r : Reaction) (finished : ℕ) (reply : PlainReply) (was now : World) → IsMounted was → IsTryLeft session.run (stored.fields_of was.store)
+    → Responds session channel bytes plain ending reply was now → ending ≡ Answered r finished → IsTryLeft r.session.run (stored.fields_of now.store)
+response_stays session channel bytes plain ending r finished reply was now mounted earlier responds is =
+    try_stays session channel responds.incoming responds.asks r finished reply was now mounted earlier
+    (subst (λ (e : Ending). IsEndedByRules (state session channel) responds.incoming responds.asks e reply was now) is responds.ended)
