@@ -137,5 +137,11 @@ pub fn unblock_pin<E: Eeprom>(
     if store.kept().unblocks == 0 {
         return uncommitted(refused(NO_UNBLOCKING, session, reply));
     }
-    commit_one(&Effect::Unblock { by_puk: true }, session, store, cells, reply)
+    commit_one(
+        &Effect::Unblock { by_puk: true },
+        session,
+        store,
+        cells,
+        reply,
+    )
 }

@@ -13,7 +13,9 @@ use eid_record::{Password, Record};
 
 /// The references of the passwords (BSI TR-03110-3).
 const CAN: u8 = 2;
+
 const PIN: u8 = 3;
+
 const PUK: u8 = 4;
 
 /// The password that a reference names.
