@@ -1,7 +1,7 @@
 //! Questions about secure messaging. Each names a channel by its key for encryption, its key for MACs, and how
 //! many messages went through it before.
 use crate::messages::{shown_command, shown_reply};
-use crate::words::{Answer, Unanswered, array, buffer, bytes, number, shown, two_bytes, word};
+use crate::words::{Answer, Unanswered, all_bytes, buffer, number, shown, three, two, word};
 use arrayvec::ArrayVec;
 use eid_apdu::{Command, Reply};
 use eid_base::Status;
@@ -9,8 +9,8 @@ use eid_sm::{Channel, MAX_MESSAGE, MAX_PLAIN, SmError};
 use std::alloc::Global;
 
 /// The channel under these keys after so many messages.
-fn channel(enc: &str, mac: &str, count: &str) -> Result<Channel, Unanswered> {
-    let mut channel = Channel::new(array::<16>(enc)?, array::<16>(mac)?);
+fn channel(enc: [u8; 16], mac: [u8; 16], count: u32) -> Channel {
+    let mut channel = Channel::new(enc, mac);
     let mut out = ArrayVec::new();
     let any = Command {
         cla: 0,
@@ -20,10 +20,10 @@ fn channel(enc: &str, mac: &str, count: &str) -> Result<Channel, Unanswered> {
         body: &[],
         ne: 0,
     };
-    for _ in 0..number(count)? {
+    for _ in 0..count {
         channel.wrap(&any, &mut out);
     }
-    Ok(channel)
+    channel
 }
 
 /// Why a protected message was refused.
@@ -39,9 +39,21 @@ pub fn wrap(alloc: Global, words: &[&str]) -> Answer {
     let [enc, mac, count, header, ne, body] = words else {
         return Err(Unanswered::Unclear);
     };
-    let [cla, ins, p1, p2] = array::<4>(header)?;
+    let count = number(count)?;
     let ne = number(ne)?;
-    let body = bytes(alloc, body)?;
+    let given = all_bytes(alloc, &[*enc, *mac, *header, *body])?;
+    wrapped(alloc, count, ne, &given)
+}
+
+fn wrapped(alloc: Global, count: u32, ne: u32, given: &[Vec<u8>]) -> Answer {
+    let [keys @ .., body] = given else {
+        return Err(Unanswered::Unclear);
+    };
+    let Some(read) = three::<16, 16, 4>(keys) else {
+        return Err(Unanswered::Unclear);
+    };
+    let (enc, mac, header) = read;
+    let [cla, ins, p1, p2] = header;
     if body.len() > MAX_PLAIN || ne > 65_536 || cla / 4 % 4 != 0 {
         return Err(Unanswered::Unclear);
     }
@@ -54,7 +66,7 @@ pub fn wrap(alloc: Global, words: &[&str]) -> Answer {
         ne,
     };
     let mut out = ArrayVec::new();
-    channel(enc, mac, count)?.wrap(&c, &mut out);
+    channel(enc, mac, count).wrap(&c, &mut out);
     shown(alloc, out.as_slice())
 }
 
@@ -63,9 +75,21 @@ pub fn unwrap(alloc: Global, words: &[&str]) -> Answer {
     let [enc, mac, count, sent] = words else {
         return Err(Unanswered::Unclear);
     };
-    let sent = bytes(alloc, sent)?;
+    let count = number(count)?;
+    let given = all_bytes(alloc, &[*enc, *mac, *sent])?;
+    unwrapped(alloc, count, &given)
+}
+
+fn unwrapped(alloc: Global, count: u32, given: &[Vec<u8>]) -> Answer {
+    let [keys @ .., sent] = given else {
+        return Err(Unanswered::Unclear);
+    };
+    let Some(read) = two::<16, 16>(keys) else {
+        return Err(Unanswered::Unclear);
+    };
+    let (enc, mac) = read;
     let mut body = ArrayVec::<u8, MAX_MESSAGE>::new();
-    match channel(enc, mac, count)?.unwrap(&sent, &mut body) {
+    match channel(enc, mac, count).unwrap(sent, &mut body) {
         Ok(h) => shown_command(alloc, &h.with_body(body.as_slice())),
         Err(error) => refused(alloc, error),
     }
@@ -76,15 +100,31 @@ pub fn seal(alloc: Global, words: &[&str]) -> Answer {
     let [enc, mac, count, status, content] = words else {
         return Err(Unanswered::Unclear);
     };
+    let count = number(count)?;
+    let given = all_bytes(alloc, &[*enc, *mac, *status, *content])?;
+    sealed(alloc, count, &given)
+}
+
+fn sealed(alloc: Global, count: u32, given: &[Vec<u8>]) -> Answer {
+    let [keys @ .., content] = given else {
+        return Err(Unanswered::Unclear);
+    };
+    let Some(read) = three::<16, 16, 2>(keys) else {
+        return Err(Unanswered::Unclear);
+    };
+    let (enc, mac, status) = read;
+    let Some(content) = buffer(content) else {
+        return Err(Unanswered::Unclear);
+    };
     let reply = Reply {
-        content: buffer(alloc, content)?,
-        status: Status(two_bytes(status)?),
+        content,
+        status: Status(u16::from_be_bytes(status)),
     };
     if reply.content.len() > MAX_PLAIN {
         return Err(Unanswered::Unclear);
     }
     let mut out = ArrayVec::new();
-    channel(enc, mac, count)?.seal(&reply, &mut out);
+    channel(enc, mac, count).seal(&reply, &mut out);
     shown(alloc, out.as_slice())
 }
 
@@ -93,12 +133,24 @@ pub fn unseal(alloc: Global, words: &[&str]) -> Answer {
     let [enc, mac, count, sent] = words else {
         return Err(Unanswered::Unclear);
     };
-    let sent = bytes(alloc, sent)?;
+    let count = number(count)?;
+    let given = all_bytes(alloc, &[*enc, *mac, *sent])?;
+    unsealed(alloc, count, &given)
+}
+
+fn unsealed(alloc: Global, count: u32, given: &[Vec<u8>]) -> Answer {
+    let [keys @ .., sent] = given else {
+        return Err(Unanswered::Unclear);
+    };
+    let Some(read) = two::<16, 16>(keys) else {
+        return Err(Unanswered::Unclear);
+    };
+    let (enc, mac) = read;
     let mut reply = Reply {
         content: ArrayVec::new(),
         status: Status(0),
     };
-    match channel(enc, mac, count)?.unseal(&sent, &mut reply) {
+    match channel(enc, mac, count).unseal(sent, &mut reply) {
         Ok(()) => shown_reply(alloc, &reply),
         Err(error) => refused(alloc, error),
     }

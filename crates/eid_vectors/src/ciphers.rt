@@ -1,5 +1,7 @@
 //! Questions about AES, CMAC, padding and the derivation of keys. Keys and blocks have 16 bytes.
-use crate::words::{Answer, Unanswered, array, buffer, bytes, number, shown, shown_buffer, word};
+use crate::words::{
+    Answer, Unanswered, all_bytes, buffer, fixed, number, shown, shown_buffer, two, word,
+};
 use eid_aes::Aes;
 use std::alloc::Global;
 
@@ -7,100 +9,121 @@ use std::alloc::Global;
 const ROOM: usize = 40;
 
 /// `encrypt KEY BLOCK`: the encrypted block.
-pub fn encrypt(alloc: Global, words: &[&str]) -> Answer {
-    let [key, block] = words else {
+pub fn encrypt(alloc: Global, given: &[Vec<u8>]) -> Answer {
+    let Some(read) = two::<16, 16>(given) else {
         return Err(Unanswered::Unclear);
     };
-    let mut block = array::<16>(block)?;
-    Aes::<10>::new(&array::<16>(key)?).encrypt(&mut block);
+    let (key, mut block) = read;
+    Aes::<10>::new(&key).encrypt(&mut block);
     shown(alloc, &block)
 }
 
 /// `decrypt KEY BLOCK`: the decrypted block.
-pub fn decrypt(alloc: Global, words: &[&str]) -> Answer {
-    let [key, block] = words else {
+pub fn decrypt(alloc: Global, given: &[Vec<u8>]) -> Answer {
+    let Some(read) = two::<16, 16>(given) else {
         return Err(Unanswered::Unclear);
     };
-    let mut block = array::<16>(block)?;
-    Aes::<10>::new(&array::<16>(key)?).decrypt(&mut block);
+    let (key, mut block) = read;
+    Aes::<10>::new(&key).decrypt(&mut block);
     shown(alloc, &block)
 }
 
+/// What cipher block chaining does with the bytes, which are whole blocks.
+#[derive(Clone, Copy)]
+enum Chaining {
+    Encrypts,
+    Decrypts,
+}
+
 /// `cbc-encrypt KEY IV BYTES`: the bytes, which are whole blocks, encrypted by cipher block chaining.
-pub fn cbc_encrypt(alloc: Global, words: &[&str]) -> Answer {
-    let [key, iv, plain] = words else {
-        return Err(Unanswered::Unclear);
-    };
-    let mut blocks = bytes(alloc, plain)?;
-    if blocks.len() % 16 != 0 {
-        return Err(Unanswered::Unclear);
-    }
-    Aes::<10>::new(&array::<16>(key)?).cbc_encrypt(&array::<16>(iv)?, &mut blocks);
-    shown(alloc, &blocks)
+pub fn cbc_encrypt(alloc: Global, given: &[Vec<u8>]) -> Answer {
+    chained(alloc, given, Chaining::Encrypts)
 }
 
 /// `cbc-decrypt KEY IV BYTES`: the bytes, which are whole blocks, decrypted by cipher block chaining.
-pub fn cbc_decrypt(alloc: Global, words: &[&str]) -> Answer {
-    let [key, iv, cryptogram] = words else {
+pub fn cbc_decrypt(alloc: Global, given: &[Vec<u8>]) -> Answer {
+    chained(alloc, given, Chaining::Decrypts)
+}
+
+fn chained(alloc: Global, given: &[Vec<u8>], chaining: Chaining) -> Answer {
+    let [keys @ .., plain] = given else {
         return Err(Unanswered::Unclear);
     };
-    let mut blocks = bytes(alloc, cryptogram)?;
+    let Some(read) = two::<16, 16>(keys) else {
+        return Err(Unanswered::Unclear);
+    };
+    let (key, start) = read;
+    let mut blocks = plain.clone()?;
     if blocks.len() % 16 != 0 {
         return Err(Unanswered::Unclear);
     }
-    Aes::<10>::new(&array::<16>(key)?).cbc_decrypt(&array::<16>(iv)?, &mut blocks);
+    match chaining {
+        Chaining::Encrypts => Aes::<10>::new(&key).cbc_encrypt(&start, &mut blocks),
+        Chaining::Decrypts => Aes::<10>::new(&key).cbc_decrypt(&start, &mut blocks),
+    }
     shown(alloc, &blocks)
 }
 
 /// `cmac KEY FIRST SECOND THIRD`: the MAC of a message in three pieces.
-pub fn cmac(alloc: Global, words: &[&str]) -> Answer {
-    let [key, first, second, third] = words else {
+pub fn cmac(alloc: Global, given: &[Vec<u8>]) -> Answer {
+    let [key, first, second, third] = given else {
         return Err(Unanswered::Unclear);
     };
-    let key = Aes::<10>::new(&array::<16>(key)?);
-    let first = bytes(alloc, first)?;
-    let second = bytes(alloc, second)?;
-    let third = bytes(alloc, third)?;
-    shown(alloc, &eid_cmac::cmac(&key, &first, &second, &third))
+    let Some(key) = fixed::<16>(key) else {
+        return Err(Unanswered::Unclear);
+    };
+    let mac = eid_cmac::cmac(&Aes::<10>::new(&key), first, second, third);
+    shown(alloc, &mac)
 }
 
 /// `mac8 KEY BYTES`: the first 8 bytes of the MAC.
-pub fn mac8(alloc: Global, words: &[&str]) -> Answer {
-    let [key, message] = words else {
+pub fn mac8(alloc: Global, given: &[Vec<u8>]) -> Answer {
+    let [key, message] = given else {
         return Err(Unanswered::Unclear);
     };
-    let key = Aes::<10>::new(&array::<16>(key)?);
-    let message = bytes(alloc, message)?;
-    shown(alloc, &eid_cmac::mac8(&key, &message, &[], &[]))
+    let Some(key) = fixed::<16>(key) else {
+        return Err(Unanswered::Unclear);
+    };
+    let mac = eid_cmac::mac8(&Aes::<10>::new(&key), message, &[], &[]);
+    shown(alloc, &mac)
 }
 
 /// `derive SECRET NONCE NUMBER`: the key of that number.
 pub fn derive(alloc: Global, words: &[&str]) -> Answer {
-    let [secret, nonce, which] = words else {
+    let [from @ .., which] = words else {
         return Err(Unanswered::Unclear);
     };
-    let secret = bytes(alloc, secret)?;
-    let nonce = bytes(alloc, nonce)?;
-    shown(alloc, &eid_cmac::derive(&secret, &nonce, number(which)?))
+    let which = number(which)?;
+    let given = all_bytes(alloc, from)?;
+    derived(alloc, which, &given)
+}
+
+fn derived(alloc: Global, which: u32, given: &[Vec<u8>]) -> Answer {
+    let [secret, nonce] = given else {
+        return Err(Unanswered::Unclear);
+    };
+    let key = eid_cmac::derive(secret, nonce, which);
+    shown(alloc, &key)
 }
 
 /// `pad BYTES`: what a buffer of 40 bytes holds once these are padded in it.
-pub fn pad(alloc: Global, words: &[&str]) -> Answer {
-    let [plain] = words else {
+pub fn pad(alloc: Global, given: &[Vec<u8>]) -> Answer {
+    let [plain] = given else {
         return Err(Unanswered::Unclear);
     };
-    let mut out = buffer::<ROOM>(alloc, plain)?;
+    let Some(mut out) = buffer::<ROOM>(plain) else {
+        return Err(Unanswered::Unclear);
+    };
     let fits = eid_cmac::pad(&mut out).is_ok();
     shown_buffer(alloc, fits, out.as_slice())
 }
 
 /// `unpad BYTES`: how many bytes were padded, or `none`.
-pub fn unpad(alloc: Global, words: &[&str]) -> Answer {
-    let [padded] = words else {
+pub fn unpad(alloc: Global, given: &[Vec<u8>]) -> Answer {
+    let [padded] = given else {
         return Err(Unanswered::Unclear);
     };
-    let padded = bytes(alloc, padded)?;
-    match eid_cmac::unpad(&padded) {
+    match eid_cmac::unpad(padded) {
         Some(count) => Ok(format!(in alloc; "{count}")?),
         None => word(alloc, "none"),
     }

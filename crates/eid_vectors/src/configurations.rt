@@ -1,6 +1,6 @@
 //! Questions about personalisation. A question has changes to one configuration, parted by `|`: `KEY` leaves the key
 //! out, `KEY VALUE` gives it another value, and `KEY file:N` so many bytes 00.
-use crate::words::{self, Unanswered, bytes, number, shown, text, word};
+use crate::words::{self, Piece, Unanswered, bytes, line, number, shown, text, word};
 use eid_perso::{Config, ConfigError, image_of, read_config, show_text};
 use std::alloc::Global;
 
@@ -44,24 +44,32 @@ fn is_changed(key: &str, changes: &str) -> bool {
     false
 }
 
+/// Appends texts.
+fn put_texts(document: &mut String, texts: &[&str]) -> Result<(), Unanswered> {
+    for text in texts {
+        document.push_str(text)?;
+    }
+    Ok(())
+}
+
 /// Appends the line of a key.
 fn put_line(document: &mut String, key: &str, value: &str) -> Result<(), Unanswered> {
-    document.push_str(key)?;
-    document.push_str(" = ")?;
-    document.push_str(value)?;
-    document.push_str("\n")?;
+    put_texts(document, &[key, " = ", value, "\n"])
+}
+
+/// Appends so many bytes 00 in hexadecimal.
+fn put_zeros(document: &mut String, size: u32) -> Result<(), Unanswered> {
+    for _ in 0..size {
+        document.push_str("00")?;
+    }
     Ok(())
 }
 
 /// Appends the line of a file of so many bytes.
 fn put_file(document: &mut String, key: &str, size: u32) -> Result<(), Unanswered> {
-    document.push_str(key)?;
-    document.push_str(" = '")?;
-    for _ in 0..size {
-        document.push_str("00")?;
-    }
-    document.push_str("'\n")?;
-    Ok(())
+    put_texts(document, &[key, " = '"])?;
+    put_zeros(document, size)?;
+    put_texts(document, &["'\n"])
 }
 
 /// Appends the line that a change gives, if it gives one.
@@ -75,24 +83,50 @@ fn put_change(document: &mut String, change: &str) -> Result<(), Unanswered> {
     }
 }
 
+/// Appends the line of a key, if none of the changes is of it.
+fn put_kept(
+    document: &mut String,
+    key: &str,
+    value: &str,
+    changes: &str,
+) -> Result<(), Unanswered> {
+    if is_changed(key, changes) {
+        return Ok(());
+    }
+    put_line(document, key, value)
+}
+
+/// Appends the lines that no change is of.
+fn put_all_kept(document: &mut String, changes: &str) -> Result<(), Unanswered> {
+    for (key, value) in BASE.as_slice() {
+        put_kept(document, key, value, changes)?;
+    }
+    Ok(())
+}
+
+/// Appends the lines that the changes give.
+fn put_changes(document: &mut String, changes: &str) -> Result<(), Unanswered> {
+    for change in changes.split('|') {
+        put_change(document, change)?;
+    }
+    Ok(())
+}
+
 /// The configuration with these changes.
 fn changed(alloc: Global, changes: &str) -> Result<String, Unanswered> {
     let mut document = String::new(alloc);
-    for (key, value) in BASE {
-        if !is_changed(key, changes) {
-            put_line(&mut document, key, value)?;
-        }
-    }
-    for change in changes.split('|') {
-        put_change(&mut document, change)?;
-    }
+    put_all_kept(&mut document, changes)?;
+    put_changes(&mut document, changes)?;
     Ok(document)
 }
 
 /// The key that a reading refused.
 fn refused(alloc: Global, error: ConfigError) -> words::Answer {
     match error {
-        ConfigError::Bad { key } => Ok(format!(in alloc; "key {key}")?),
+        ConfigError::Bad { key } => line(
+            alloc,
+            &[Piece::Text("key "), Piece::Number(u32::from(key))],
+        ),
         ConfigError::NoMemory => Err(Unanswered::NoMemory),
     }
 }
@@ -105,44 +139,27 @@ fn read(alloc: Global, document: &[u8]) -> words::Answer {
     }
 }
 
-/// The words of a question as they stood in its line.
-fn joined(alloc: Global, words: &[&str]) -> Result<String, Unanswered> {
-    let mut line = String::new(alloc);
-    for (i, word) in words.iter().enumerate() {
-        if i > 0 {
-            line.push_str(" ")?;
-        }
-        line.push_str(word)?;
-    }
-    Ok(line)
-}
-
 /// `config CHANGES`: whether the configuration with these changes is read, or the key that is refused.
-pub fn config(alloc: Global, words: &[&str]) -> words::Answer {
-    let changes = joined(alloc, words)?;
-    let document = changed(alloc, changes.as_str())?;
+pub fn config(alloc: Global, changes: &str) -> words::Answer {
+    let document = changed(alloc, changes)?;
     read(alloc, document.as_bytes())
 }
 
 /// `document TEXT`: the same of a whole text, in which `|` stands for LF.
-pub fn document(alloc: Global, words: &[&str]) -> words::Answer {
+pub fn document(alloc: Global, words: &str) -> words::Answer {
     let document = text(alloc, words)?;
     read(alloc, &document)
 }
 
 /// `document-in BYTES`: the same of a whole text by its bytes.
-pub fn document_in(alloc: Global, words: &[&str]) -> words::Answer {
-    let [document] = words else {
-        return Err(Unanswered::Unclear);
-    };
-    let document = bytes(alloc, document)?;
+pub fn document_in(alloc: Global, word: &str) -> words::Answer {
+    let document = bytes(alloc, word)?;
     read(alloc, &document)
 }
 
 /// `image CHANGES`: the image of the configuration with these changes.
-pub fn image(alloc: Global, words: &[&str]) -> words::Answer {
-    let changes = joined(alloc, words)?;
-    let document = changed(alloc, changes.as_str())?;
+pub fn image(alloc: Global, changes: &str) -> words::Answer {
+    let document = changed(alloc, changes)?;
     match read_config(alloc, document.as_bytes()) {
         Ok(config) => shown(alloc, &image_of(alloc, &config)?),
         Err(error) => refused(alloc, error),
@@ -150,9 +167,8 @@ pub fn image(alloc: Global, words: &[&str]) -> words::Answer {
 }
 
 /// `show CHANGES`: the text that shows the record of the configuration with these changes, with `|` for LF.
-pub fn show(alloc: Global, words: &[&str]) -> words::Answer {
-    let changes = joined(alloc, words)?;
-    let document = changed(alloc, changes.as_str())?;
+pub fn show(alloc: Global, changes: &str) -> words::Answer {
+    let document = changed(alloc, changes)?;
     match read_config(alloc, document.as_bytes()) {
         Ok(config) => shown_record(alloc, &config),
         Err(error) => refused(alloc, error),
@@ -162,8 +178,8 @@ pub fn show(alloc: Global, words: &[&str]) -> words::Answer {
 /// The text that shows the record of a configuration, with `|` for LF.
 fn shown_record(alloc: Global, config: &Config) -> words::Answer {
     let text = show_text(alloc, &config.kept, config.layout)?;
-    let Ok(text) = std::str::from_utf8(&text) else {
-        return Err(Unanswered::Unclear);
-    };
-    Ok(text.replace(alloc, "\n", "|")?)
+    match std::str::from_utf8(&text) {
+        Ok(text) => Ok(text.replace(alloc, "\n", "|")?),
+        Err(_) => Err(Unanswered::Unclear),
+    }
 }

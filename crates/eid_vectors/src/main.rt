@@ -22,52 +22,119 @@ use words::{Answer, Unanswered};
 
 /// The answer to a question, by its first word.
 fn answer(alloc: Global, line: &str) -> Answer {
-    let words = words::split(alloc, line)?;
-    let [question, words @ ..] = words.as_slice() else {
-        return Err(Unanswered::Unclear);
-    };
-    match *question {
-        "command" => messages::command(alloc, words),
-        "write-command" => messages::write_command(alloc, words),
-        "reply" => messages::reply(alloc, words),
-        "write-reply" => messages::write_reply(alloc, words),
-        "object" => objects::object(alloc, words),
-        "put" => objects::put(alloc, words),
-        "find" => objects::find(alloc, words),
-        "only" => objects::only(alloc, words),
-        "encrypt" => ciphers::encrypt(alloc, words),
-        "decrypt" => ciphers::decrypt(alloc, words),
-        "cbc-encrypt" => ciphers::cbc_encrypt(alloc, words),
-        "cbc-decrypt" => ciphers::cbc_decrypt(alloc, words),
-        "cmac" => ciphers::cmac(alloc, words),
-        "mac8" => ciphers::mac8(alloc, words),
-        "derive" => ciphers::derive(alloc, words),
-        "pad" => ciphers::pad(alloc, words),
-        "unpad" => ciphers::unpad(alloc, words),
-        "wrap" => channels::wrap(alloc, words),
-        "unwrap" => channels::unwrap(alloc, words),
-        "seal" => channels::seal(alloc, words),
-        "unseal" => channels::unseal(alloc, words),
-        "date" => templates::date(alloc, words),
-        "template" => templates::template(alloc, words),
-        "identifier" => templates::identifier(alloc, words),
-        "ask" => coprocessors::ask(alloc, words),
-        "answers" => coprocessors::answers(alloc, words),
-        "answers-in" => coprocessors::answers_in_bytes(alloc, words),
-        "password" => passwords::password(alloc, words),
-        "select" => passwords::select(alloc, words),
-        "pace" => passwords::pace(alloc, words),
-        "config" => configurations::config(alloc, words),
-        "document" => configurations::document(alloc, words),
-        "document-in" => configurations::document_in(alloc, words),
-        "image" => configurations::image(alloc, words),
-        "show" => configurations::show(alloc, words),
-        "script" => scripts::script(alloc, words),
-        "script-in" => scripts::script_in(alloc, words),
+    match line.split_once(' ') {
+        Some((question, rest)) => about_text(alloc, question, rest),
+        None => about_text(alloc, line, ""),
+    }
+}
+
+/// The answer to a question about the whole text behind its first word.
+fn about_text(alloc: Global, question: &str, rest: &str) -> Answer {
+    match question {
+        "config" => configurations::config(alloc, rest),
+        "document" => configurations::document(alloc, rest),
+        "document-in" => configurations::document_in(alloc, rest),
+        "image" => configurations::image(alloc, rest),
+        "show" => configurations::show(alloc, rest),
+        _ => about_lines(alloc, question, rest),
+    }
+}
+
+/// The answer to a question about lines of text.
+fn about_lines(alloc: Global, question: &str, rest: &str) -> Answer {
+    match question {
+        "script" => scripts::script(alloc, rest),
+        "script-in" => scripts::script_in(alloc, rest),
+        "answers" => coprocessors::answers(alloc, rest),
+        "answers-in" => coprocessors::answers_in_bytes(alloc, rest),
+        _ => about_words(alloc, question, rest),
+    }
+}
+
+/// The answer to a question about words.
+fn about_words(alloc: Global, question: &str, rest: &str) -> Answer {
+    let words = words::split(alloc, rest)?;
+    about_chip(alloc, question, &words)
+}
+
+/// The answer to a question about what the chip keeps, and about its coprocessor.
+fn about_chip(alloc: Global, question: &str, words: &[&str]) -> Answer {
+    match question {
         "record" => records::record(alloc, words),
         "effect" => records::effect(alloc, words),
         "device" => devices::device(alloc, words),
         "store" => devices::store(alloc, words),
+        "ask" => coprocessors::ask(alloc, words),
+        _ => about_password(alloc, question, words),
+    }
+}
+
+/// The answer to a question about passwords.
+fn about_password(alloc: Global, question: &str, words: &[&str]) -> Answer {
+    match question {
+        "password" => passwords::password(alloc, words),
+        "may-start" => passwords::may_start(alloc, words),
+        "select-status" => passwords::select_status(alloc, words),
+        "pace" => passwords::pace(alloc, words),
+        _ => about_channel(alloc, question, words),
+    }
+}
+
+/// The answer to a question about a channel, or another one that has a number beside its bytes.
+fn about_channel(alloc: Global, question: &str, words: &[&str]) -> Answer {
+    match question {
+        "wrap" => channels::wrap(alloc, words),
+        "unwrap" => channels::unwrap(alloc, words),
+        "seal" => channels::seal(alloc, words),
+        "unseal" => channels::unseal(alloc, words),
+        "write-command" => messages::write_command(alloc, words),
+        "derive" => ciphers::derive(alloc, words),
+        _ => about_bytes(alloc, question, words),
+    }
+}
+
+/// The answer to a question whose words are all bytes.
+fn about_bytes(alloc: Global, question: &str, words: &[&str]) -> Answer {
+    let given = words::all_bytes(alloc, words)?;
+    about_cipher(alloc, question, &given)
+}
+
+/// The answer to a question about a cipher.
+fn about_cipher(alloc: Global, question: &str, given: &[Vec<u8>]) -> Answer {
+    match question {
+        "encrypt" => ciphers::encrypt(alloc, given),
+        "decrypt" => ciphers::decrypt(alloc, given),
+        "cbc-encrypt" => ciphers::cbc_encrypt(alloc, given),
+        "cbc-decrypt" => ciphers::cbc_decrypt(alloc, given),
+        "cmac" => ciphers::cmac(alloc, given),
+        "mac8" => ciphers::mac8(alloc, given),
+        "pad" => ciphers::pad(alloc, given),
+        "unpad" => ciphers::unpad(alloc, given),
+        _ => about_message(alloc, question, given),
+    }
+}
+
+/// The answer to a question about a message or a data object.
+fn about_message(alloc: Global, question: &str, given: &[Vec<u8>]) -> Answer {
+    match question {
+        "command" => messages::command(alloc, given),
+        "reply" => messages::reply(alloc, given),
+        "write-reply" => messages::write_reply(alloc, given),
+        "object" => objects::object(alloc, given),
+        "put" => objects::put(alloc, given),
+        "find" => objects::find(alloc, given),
+        "only" => objects::only(alloc, given),
+        _ => about_value(alloc, question, given),
+    }
+}
+
+/// The answer to a question about a value of its own type.
+fn about_value(alloc: Global, question: &str, given: &[Vec<u8>]) -> Answer {
+    match question {
+        "date" => templates::date(alloc, given),
+        "template" => templates::template(alloc, given),
+        "identifier" => templates::identifier(alloc, given),
+        "select" => passwords::select(alloc, given),
         _ => Err(Unanswered::Unclear),
     }
 }

@@ -1,8 +1,7 @@
 //! Questions about command and response APDUs.
 use crate::words::{
-    Answer, Unanswered, array, buffer, bytes, number, shown, shown_buffer, two_bytes, word,
+    Answer, Piece, Unanswered, all_bytes, buffer, fixed, line, number, shown_buffer, word,
 };
-use arrayvec::ArrayVec;
 use eid_apdu::{Command, Reply};
 use eid_base::Status;
 use std::alloc::Global;
@@ -12,29 +11,48 @@ const ROOM: usize = 300;
 
 /// A command as an answer.
 pub fn shown_command(alloc: Global, c: &Command<'_>) -> Answer {
-    let header = shown(alloc, &[c.cla, c.ins, c.p1, c.p2])?;
-    let body = shown(alloc, c.body)?;
-    let ne = c.ne;
-    Ok(format!(in alloc; "{header} ne {ne} body {body}")?)
+    command_line(alloc, &[c.cla, c.ins, c.p1, c.p2], c.ne, c.body)
+}
+
+fn command_line<'a>(alloc: Global, header: &'a [u8], ne: u32, body: &'a [u8]) -> Answer {
+    line(
+        alloc,
+        &[
+            Piece::Bytes(header),
+            Piece::Text(" ne "),
+            Piece::Number(ne),
+            Piece::Text(" body "),
+            Piece::Bytes(body),
+        ],
+    )
 }
 
 /// A reply as an answer.
 pub fn shown_reply(alloc: Global, reply: &Reply) -> Answer {
-    let status = reply.status.0;
-    let content = shown(alloc, reply.content.as_slice())?;
-    Ok(format!(in alloc; "{status:04x} content {content}")?)
+    let status = reply.status.0.to_be_bytes();
+    reply_line(alloc, &status, reply.content.as_slice())
+}
+
+fn reply_line<'a>(alloc: Global, status: &'a [u8], content: &'a [u8]) -> Answer {
+    line(
+        alloc,
+        &[
+            Piece::Bytes(status),
+            Piece::Text(" content "),
+            Piece::Bytes(content),
+        ],
+    )
 }
 
 /// `command BYTES`: the command that the bytes are, or `bad`.
-pub fn command(alloc: Global, words: &[&str]) -> Answer {
-    let [sent] = words else {
+pub fn command(alloc: Global, given: &[Vec<u8>]) -> Answer {
+    let [sent] = given else {
         return Err(Unanswered::Unclear);
     };
-    let sent = bytes(alloc, sent)?;
-    let Ok(c) = eid_apdu::read_command(&sent) else {
-        return word(alloc, "bad");
-    };
-    shown_command(alloc, &c)
+    match eid_apdu::read_command(sent) {
+        Ok(c) => shown_command(alloc, &c),
+        Err(_) => word(alloc, "bad"),
+    }
 }
 
 /// `write-command BEFORE HEADER NE BODY`: what the buffer holds once the command is written behind BEFORE.
@@ -42,13 +60,25 @@ pub fn write_command(alloc: Global, words: &[&str]) -> Answer {
     let [before, header, ne, body] = words else {
         return Err(Unanswered::Unclear);
     };
-    let mut out = buffer::<ROOM>(alloc, before)?;
-    let [cla, ins, p1, p2] = array::<4>(header)?;
     let ne = number(ne)?;
-    let body = bytes(alloc, body)?;
+    let given = all_bytes(alloc, &[*before, *header, *body])?;
+    written_command(alloc, ne, &given)
+}
+
+fn written_command(alloc: Global, ne: u32, given: &[Vec<u8>]) -> Answer {
+    let [before, header, body] = given else {
+        return Err(Unanswered::Unclear);
+    };
+    let Some(header) = fixed::<4>(header) else {
+        return Err(Unanswered::Unclear);
+    };
+    let [cla, ins, p1, p2] = header;
     if body.len() > 65_535 || ne > 65_536 {
         return Err(Unanswered::Unclear);
     }
+    let Some(mut out) = buffer::<ROOM>(before) else {
+        return Err(Unanswered::Unclear);
+    };
     let c = Command {
         cla,
         ins,
@@ -62,26 +92,30 @@ pub fn write_command(alloc: Global, words: &[&str]) -> Answer {
 }
 
 /// `reply BYTES`: the reply that the bytes are, or `bad`.
-pub fn reply(alloc: Global, words: &[&str]) -> Answer {
-    let [sent] = words else {
+pub fn reply(alloc: Global, given: &[Vec<u8>]) -> Answer {
+    let [sent] = given else {
         return Err(Unanswered::Unclear);
     };
-    let sent = bytes(alloc, sent)?;
-    let Ok(reply) = eid_apdu::read_reply(&sent) else {
-        return word(alloc, "bad");
-    };
-    shown_reply(alloc, &reply)
+    match eid_apdu::read_reply(sent) {
+        Ok(reply) => shown_reply(alloc, &reply),
+        Err(_) => word(alloc, "bad"),
+    }
 }
 
 /// `write-reply BEFORE STATUS CONTENT`: what the buffer holds once the reply is written behind BEFORE.
-pub fn write_reply(alloc: Global, words: &[&str]) -> Answer {
-    let [before, status, content] = words else {
+pub fn write_reply(alloc: Global, given: &[Vec<u8>]) -> Answer {
+    let [before, status, content] = given else {
         return Err(Unanswered::Unclear);
     };
-    let mut out = buffer::<ROOM>(alloc, before)?;
+    let Some(status) = fixed::<2>(status) else {
+        return Err(Unanswered::Unclear);
+    };
+    let (Some(mut out), Some(content)) = (buffer::<ROOM>(before), buffer(content)) else {
+        return Err(Unanswered::Unclear);
+    };
     let reply = Reply {
-        content: buffer(alloc, content)?,
-        status: Status(two_bytes(status)?),
+        content,
+        status: Status(u16::from_be_bytes(status)),
     };
     let fits = eid_apdu::write_reply(&reply, &mut out).is_ok();
     shown_buffer(alloc, fits, out.as_slice())

@@ -5,7 +5,10 @@ ghost use Rattle.eid_record.specs.Effect.{IsNamed};
 ghost use Rattle.eid_record.specs.Valid.{AreDigits, IsValid};
 ghost use Rattle.eid_record.specs.View.{record_view, trust_point_view};
 
-use crate::words::{Answer, Unanswered, array, buffer, bytes, number, shown, word};
+use crate::words::{
+    Answer, Piece, Unanswered, buffer, bytes, cut, fixed, line, number, one, parts, put_pieces,
+    put_word, word,
+};
 use eid_bits::{Date6, Template};
 use eid_record::{Effect, FIXED, Record, TrustPoint, apply, are_digits, read_record, write_record};
 use std::alloc::Global;
@@ -21,13 +24,18 @@ pub fn image(alloc: Global) -> Result<Vec<u8>, Unanswered> {
     bytes(alloc, IMAGE)
 }
 
+/// The fixed bytes of that record.
+fn unchanged(alloc: Global) -> Result<[u8; FIXED], Unanswered> {
+    let image = image(alloc)?;
+    match image.as_slice().first_chunk::<FIXED>() {
+        Some(front) => Ok(*front),
+        None => Err(Unanswered::Unclear),
+    }
+}
+
 /// The fixed bytes of that record, with changes, each a word `PLACE:BYTES`.
 fn changed(alloc: Global, changes: &[&str]) -> Result<[u8; FIXED], Unanswered> {
-    let image = image(alloc)?;
-    let Some(front) = image.as_slice().first_chunk::<FIXED>() else {
-        return Err(Unanswered::Unclear);
-    };
-    let mut fixed = *front;
+    let mut fixed = unchanged(alloc)?;
     for change in changes {
         put_change(alloc, change, &mut fixed)?;
     }
@@ -35,89 +43,134 @@ fn changed(alloc: Global, changes: &[&str]) -> Result<[u8; FIXED], Unanswered> {
 }
 
 fn put_change(alloc: Global, change: &str, fixed: &mut [u8; FIXED]) -> Result<(), Unanswered> {
-    let Some((place, put)) = change.split_once(':') else {
-        return Err(Unanswered::Unclear);
-    };
+    let (place, put) = cut(change)?;
     let from = number(place)? as usize;
     let put = bytes(alloc, put)?;
+    put_at(fixed, from, &put)
+}
+
+fn put_at(fixed: &mut [u8; FIXED], from: usize, put: &[u8]) -> Result<(), Unanswered> {
     if from > FIXED || put.len() > FIXED - from {
         return Err(Unanswered::Unclear);
     }
-    fixed[from..from + put.len()].copy_from_slice(put.as_slice());
+    fixed[from..from + put.len()].copy_from_slice(put);
     Ok(())
 }
 
 /// `record CHANGE ..`: the record that the fixed bytes spell, a name before each value, or `bad PLACE`.
 pub fn record(alloc: Global, words: &[&str]) -> Answer {
-    match read_record(&changed(alloc, words)?) {
+    let fixed = changed(alloc, words)?;
+    match read_record(&fixed) {
         Ok(kept) => fields(alloc, &kept),
-        Err(bad) => {
-            let place = bad.place;
-            Ok(format!(in alloc; "bad {place}")?)
-        }
+        Err(bad) => bad_place(alloc, bad.place),
     }
+}
+
+fn bad_place(alloc: Global, place: u16) -> Answer {
+    line(
+        alloc,
+        &[Piece::Text("bad "), Piece::Number(u32::from(place))],
+    )
 }
 
 fn fields(alloc: Global, kept: &Record) -> Answer {
-    let values = values(alloc, kept)?;
-    let current = point(alloc, &kept.current)?;
-    let previous = optional_point(alloc, &kept.previous)?;
-    let secrets = secrets(alloc, kept)?;
-    let lengths = lengths(alloc, &kept.lengths)?;
-    Ok(format!(in alloc;
-        "{values} current {current} previous {previous} {secrets} lengths {lengths}"
-    )?)
+    let mut text = String::new(alloc);
+    put_values(alloc, kept, &mut text)?;
+    put_points(alloc, kept, &mut text)?;
+    put_secrets(alloc, kept, &mut text)?;
+    put_lengths(alloc, &kept.lengths, &mut text)?;
+    Ok(text)
 }
 
-fn values(alloc: Global, kept: &Record) -> Answer {
-    let (number, tries, unblocks, active) = (kept.number, kept.tries, kept.unblocks, kept.active);
-    let passwords = passwords(alloc, kept)?;
-    let date = shown(alloc, kept.date.as_bytes())?;
-    Ok(format!(in alloc;
-        "number {number} tries {tries} unblocks {unblocks} active {active} {passwords} date {date}"
-    )?)
+fn put_values(alloc: Global, kept: &Record, text: &mut String) -> Result<(), Unanswered> {
+    let active = if kept.active { "true" } else { "false" };
+    put_pieces(
+        alloc,
+        &[
+            Piece::Text("number "),
+            Piece::Number(kept.number),
+            Piece::Text(" tries "),
+            Piece::Number(u32::from(kept.tries)),
+            Piece::Text(" unblocks "),
+            Piece::Number(u32::from(kept.unblocks)),
+            Piece::Text(" active "),
+            Piece::Text(active),
+            Piece::Text(" pin "),
+            Piece::Bytes(&kept.pin),
+            Piece::Text(" can "),
+            Piece::Bytes(&kept.can),
+            Piece::Text(" puk "),
+            Piece::Bytes(&kept.puk),
+            Piece::Text(" date "),
+            Piece::Bytes(kept.date.as_bytes()),
+        ],
+        text,
+    )
 }
 
-fn passwords(alloc: Global, kept: &Record) -> Answer {
-    let pin = shown(alloc, &kept.pin)?;
-    let can = shown(alloc, &kept.can)?;
-    let puk = shown(alloc, &kept.puk)?;
-    Ok(format!(in alloc; "pin {pin} can {can} puk {puk}")?)
-}
-
-fn secrets(alloc: Global, kept: &Record) -> Answer {
-    let chip = shown(alloc, &kept.ca_secret)?;
-    let restricted = shown(alloc, &kept.ri_secret)?;
-    Ok(format!(in alloc; "ca {chip} ri {restricted}")?)
-}
-
-fn point(alloc: Global, point: &TrustPoint) -> Answer {
-    let name = shown(alloc, point.name.as_slice())?;
-    let template = shown(alloc, point.template.as_bytes())?;
-    let key = shown(alloc, &point.key)?;
-    Ok(format!(in alloc; "{name},{template},{key}")?)
-}
-
-fn optional_point(alloc: Global, of: &Option<TrustPoint>) -> Answer {
-    match of {
-        Some(of) => point(alloc, of),
-        None => word(alloc, "none"),
+fn put_points(alloc: Global, kept: &Record, text: &mut String) -> Result<(), Unanswered> {
+    text.push_str(" current ")?;
+    put_point(alloc, &kept.current, text)?;
+    text.push_str(" previous ")?;
+    match &kept.previous {
+        Some(previous) => put_point(alloc, previous, text),
+        None => Ok(text.push_str("none")?),
     }
+}
+
+fn put_point(alloc: Global, point: &TrustPoint, text: &mut String) -> Result<(), Unanswered> {
+    put_pieces(
+        alloc,
+        &[
+            Piece::Bytes(point.name.as_slice()),
+            Piece::Text(","),
+            Piece::Bytes(point.template.as_bytes()),
+            Piece::Text(","),
+            Piece::Bytes(&point.key),
+        ],
+        text,
+    )
+}
+
+fn put_secrets(alloc: Global, kept: &Record, text: &mut String) -> Result<(), Unanswered> {
+    put_pieces(
+        alloc,
+        &[
+            Piece::Text(" ca "),
+            Piece::Bytes(&kept.ca_secret),
+            Piece::Text(" ri "),
+            Piece::Bytes(&kept.ri_secret),
+            Piece::Text(" lengths "),
+        ],
+        text,
+    )
 }
 
 /// The lengths of the files by their numbers; an absent file is `-`.
-fn lengths(alloc: Global, lengths: &[Option<u16>]) -> Answer {
-    let mut text = String::new(alloc);
+fn put_lengths(
+    alloc: Global,
+    lengths: &[Option<u16>],
+    text: &mut String,
+) -> Result<(), Unanswered> {
+    let mut before = "";
     for length in lengths {
-        if !text.is_empty() {
-            text.push(',')?;
-        }
-        match length {
-            Some(length) => text.push_str(&format!(in alloc; "{length}")?)?,
-            None => text.push('-')?,
-        }
+        put_length(alloc, before, *length, text)?;
+        before = ",";
     }
-    Ok(text)
+    Ok(())
+}
+
+fn put_length(
+    alloc: Global,
+    before: &str,
+    length: Option<u16>,
+    text: &mut String,
+) -> Result<(), Unanswered> {
+    let length = match length {
+        Some(length) => Piece::Number(u32::from(length)),
+        None => Piece::Text("-"),
+    };
+    put_pieces(alloc, &[Piece::Text(before), length], text)
 }
 
 /// `effect EFFECT CHANGE ..`: which fixed bytes the effect changes, each run of them as `PLACE:BYTES`, or `same`. The
@@ -128,14 +181,19 @@ pub fn effect(alloc: Global, words: &[&str]) -> Answer {
         return Err(Unanswered::Unclear);
     };
     let before = changed(alloc, changes)?;
-    let Ok(mut kept) = read_record(&before) else {
+    let after = affected(alloc, effect, &before)?;
+    differences(alloc, &before, &after)
+}
+
+/// The fixed bytes after an effect.
+fn affected(alloc: Global, effect: &str, before: &[u8; FIXED]) -> Result<[u8; FIXED], Unanswered> {
+    let Ok(mut kept) = read_record(before) else {
         return Err(Unanswered::Unclear);
     };
-    let parts: Vec<&str> = effect.split(':').collect(alloc)?;
-    apply_named(alloc, &mut kept, parts.as_slice())?;
+    apply_named(alloc, &mut kept, effect)?;
     let mut after = [0; FIXED];
     write_record(&kept, &mut after);
-    differences(alloc, &before, &after)
+    Ok(after)
 }
 
 /// The runs of bytes that differ.
@@ -144,11 +202,7 @@ fn differences(alloc: Global, before: &[u8; FIXED], after: &[u8; FIXED]) -> Answ
     let mut last = FIXED;
     for place in 0..FIXED {
         if before[place] != after[place] {
-            if last != place {
-                let begin = if text.is_empty() { "" } else { " " };
-                text.push_str(&format!(in alloc; "{begin}{place}:")?)?;
-            }
-            text.push_str(&hex::encode(alloc, [after[place]])?)?;
+            put_difference(alloc, place, last == place, after[place], &mut text)?;
             last = place + 1;
         }
     }
@@ -158,43 +212,59 @@ fn differences(alloc: Global, before: &[u8; FIXED], after: &[u8; FIXED]) -> Answ
     Ok(text)
 }
 
-/// Applies the effect that the parts name.
-fn apply_named(alloc: Global, kept: &mut Record, parts: &[&str]) -> Result<(), Unanswered>
-    requires { IsValid (record_view kept.old) }
-    ensures { IsValid (record_view kept.new) }
-{
-    match parts {
-        [name] => apply_counters(kept, name),
-        [name, value] => apply_value(kept, name, value),
-        ["advance", date, current @ ..] => advance(alloc, kept, date, current),
-        _ => Err(Unanswered::Unclear),
+/// Appends a byte that differs, with its place where the byte before it does not differ.
+fn put_difference(
+    alloc: Global,
+    place: usize,
+    is_next: bool,
+    byte: u8,
+    text: &mut String,
+) -> Result<(), Unanswered> {
+    if !is_next {
+        put_place(alloc, place, text)?;
     }
+    put_pieces(alloc, &[Piece::Bytes(&[byte])], text)
 }
 
-fn apply_counters(kept: &mut Record, name: &str) -> Result<(), Unanswered>
-    requires { IsValid (record_view kept.old) }
-    ensures { IsValid (record_view kept.new) }
-{
-    match name {
-        "none" => {}
-        "spend" if kept.tries > 0 => apply(kept, &Effect::Spend),
-        "refill" => apply(kept, &Effect::Refill),
-        _ => return Err(Unanswered::Unclear),
-    }
+fn put_place(alloc: Global, place: usize, text: &mut String) -> Result<(), Unanswered> {
+    let place = format!(in alloc; "{place}:")?;
+    put_word(text, &place)?;
     Ok(())
 }
 
-fn apply_value(kept: &mut Record, name: &str, value: &str) -> Result<(), Unanswered>
+/// Applies the effect that a word names.
+fn apply_named(alloc: Global, kept: &mut Record, effect: &str) -> Result<(), Unanswered>
     requires { IsValid (record_view kept.old) }
     ensures { IsValid (record_view kept.new) }
 {
-    match name {
-        "unblock" => return unblock(kept, value == "puk"),
-        "set-pin" => apply(kept, &Effect::SetPin(six_digits(value)?)),
-        "set-can" => apply(kept, &Effect::SetCan(six_digits(value)?)),
-        "active" => apply(kept, &Effect::Active(value == "1")),
-        _ => return Err(Unanswered::Unclear),
+    match effect {
+        "none" => Ok(()),
+        "spend" => spend(kept),
+        "refill" => refill(kept),
+        "unblock:puk" => unblock(kept, true),
+        "unblock:pin" => unblock(kept, false),
+        "active:1" => activate(kept, true),
+        "active:0" => activate(kept, false),
+        _ => apply_with_bytes(alloc, kept, effect),
     }
+}
+
+fn spend(kept: &mut Record) -> Result<(), Unanswered>
+    requires { IsValid (record_view kept.old) }
+    ensures { IsValid (record_view kept.new) }
+{
+    if kept.tries == 0 {
+        return Err(Unanswered::Unclear);
+    }
+    apply(kept, &Effect::Spend);
+    Ok(())
+}
+
+fn refill(kept: &mut Record) -> Result<(), Unanswered>
+    requires { IsValid (record_view kept.old) }
+    ensures { IsValid (record_view kept.new) }
+{
+    apply(kept, &Effect::Refill);
     Ok(())
 }
 
@@ -209,62 +279,99 @@ fn unblock(kept: &mut Record, by_puk: bool) -> Result<(), Unanswered>
     Ok(())
 }
 
-fn six_digits(digits: &str) -> Result<[u8; 6], Unanswered>
+fn activate(kept: &mut Record, active: bool) -> Result<(), Unanswered>
+    requires { IsValid (record_view kept.old) }
+    ensures { IsValid (record_view kept.new) }
+{
+    apply(kept, &Effect::Active(active));
+    Ok(())
+}
+
+/// Applies the effect that a word names by bytes.
+fn apply_with_bytes(alloc: Global, kept: &mut Record, effect: &str) -> Result<(), Unanswered>
+    requires { IsValid (record_view kept.old) }
+    ensures { IsValid (record_view kept.new) }
+{
+    let (name, given) = cut(effect)?;
+    let given = parts(alloc, given)?;
+    match name {
+        "set-pin" => set_pin(kept, &given),
+        "set-can" => set_can(kept, &given),
+        "advance" => advance(kept, &given),
+        _ => Err(Unanswered::Unclear),
+    }
+}
+
+fn set_pin(kept: &mut Record, given: &[Vec<u8>]) -> Result<(), Unanswered>
+    requires { IsValid (record_view kept.old) }
+    ensures { IsValid (record_view kept.new) }
+{
+    let digits = six_digits(given)?;
+    apply(kept, &Effect::SetPin(digits));
+    Ok(())
+}
+
+fn set_can(kept: &mut Record, given: &[Vec<u8>]) -> Result<(), Unanswered>
+    requires { IsValid (record_view kept.old) }
+    ensures { IsValid (record_view kept.new) }
+{
+    let digits = six_digits(given)?;
+    apply(kept, &Effect::SetCan(digits));
+    Ok(())
+}
+
+fn six_digits(given: &[Vec<u8>]) -> Result<[u8; 6], Unanswered>
     ensures { IfOk result (λ read. AreDigits 6 read) }
 {
-    let read = array::<6>(digits)?;
+    let Some(read) = one::<6>(given) else {
+        return Err(Unanswered::Unclear);
+    };
     if !are_digits(&read) {
         return Err(Unanswered::Unclear);
     }
     Ok(read)
 }
 
-fn advance(alloc: Global, kept: &mut Record, date: &str, points: &[&str]) -> Result<(), Unanswered>
+fn advance(kept: &mut Record, given: &[Vec<u8>]) -> Result<(), Unanswered>
     requires { IsValid (record_view kept.old) }
     ensures { IsValid (record_view kept.new) }
 {
-    let [name, template, key, previous @ ..] = points else {
+    let [date, name, template, key, previous @ ..] = given else {
         return Err(Unanswered::Unclear);
     };
+    let Ok(date) = Date6::from_bytes(date) else {
+        return Err(Unanswered::Unclear);
+    };
+    let current = named_point(name, template, key)?;
+    let previous = named_previous(previous)?;
     let effect = Effect::Advance {
-        date: date_of(date)?,
-        current: named_point(alloc, name, template, key)?,
-        previous: named_previous(alloc, previous)?,
+        date,
+        current,
+        previous,
     };
     apply(kept, &effect);
     Ok(())
 }
 
-fn date_of(digits: &str) -> Result<Date6, Unanswered> {
-    match Date6::from_bytes(&array::<6>(digits)?) {
-        Ok(date) => Ok(date),
-        Err(_) => Err(Unanswered::Unclear),
-    }
-}
-
-fn named_previous(alloc: Global, words: &[&str]) -> Result<Option<TrustPoint>, Unanswered>
+fn named_previous(given: &[Vec<u8>]) -> Result<Option<TrustPoint>, Unanswered>
     ensures { IfOk result (λ point. ForSome (option_map trust_point_view point) IsNamed) }
 {
-    match words {
+    match given {
         [] => Ok(None),
-        [name, template, key] => Ok(Some(named_point(alloc, name, template, key)?)),
+        [name, template, key] => Ok(Some(named_point(name, template, key)?)),
         _ => Err(Unanswered::Unclear),
     }
 }
 
-fn named_point(
-    alloc: Global,
-    name: &str,
-    template: &str,
-    key: &str,
-) -> Result<TrustPoint, Unanswered>
+fn named_point(name: &[u8], template: &[u8], key: &[u8]) -> Result<TrustPoint, Unanswered>
     ensures { IfOk result (λ point. IsNamed (trust_point_view point)) }
 {
-    let name = buffer::<16>(alloc, name)?;
-    let Ok(template) = Template::from_bytes(&array::<5>(template)?) else {
+    let Ok(template) = Template::from_bytes(template) else {
         return Err(Unanswered::Unclear);
     };
-    let key = array::<65>(key)?;
+    let (Some(name), Some(key)) = (buffer::<16>(name), fixed::<65>(key)) else {
+        return Err(Unanswered::Unclear);
+    };
     if name.is_empty() || key[0] != 4 {
         return Err(Unanswered::Unclear);
     }

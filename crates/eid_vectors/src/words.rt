@@ -1,10 +1,9 @@
-//! The words of a question, and the words of an answer.
+//! The words of a question, and the pieces of an answer.
 use arrayvec::ArrayVec;
 use eid_base::NoMemory;
 use hex::FromHexError;
 use sha2::{Digest, Sha256};
 use std::alloc::{AllocError, Global};
-use std::num::ParseIntError;
 
 /// How many bytes an answer shows; more are told by their number and their digest.
 const MAX_SHOWN: usize = 512;
@@ -33,12 +32,6 @@ impl From<NoMemory> for Unanswered {
     }
 }
 
-impl From<ParseIntError> for Unanswered {
-    fn from(_error: ParseIntError) -> Unanswered {
-        Unanswered::Unclear
-    }
-}
-
 impl From<FromHexError> for Unanswered {
     fn from(error: FromHexError) -> Unanswered {
         match error {
@@ -48,14 +41,26 @@ impl From<FromHexError> for Unanswered {
     }
 }
 
-/// The words of a line, which spaces part.
-pub fn split(alloc: Global, line: &str) -> Result<Vec<&str>, AllocError> {
-    line.split(' ').collect(alloc)
+/// The words of a text, which spaces part; none where it is empty.
+pub fn split(alloc: Global, text: &str) -> Result<Vec<&str>, AllocError> {
+    if text.is_empty() {
+        return Ok(Vec::new(alloc));
+    }
+    text.split(' ').collect(alloc)
 }
 
-/// An answer of one word.
-pub fn word(alloc: Global, text: &str) -> Answer {
-    Ok(String::from_str(alloc, text)?)
+/// What stands before a colon, and what behind it.
+pub fn cut(word: &str) -> Result<(&str, &str), Unanswered> {
+    word.split_once(':').ok_or(Unanswered::Unclear)
+}
+
+/// The bytes of a text in which `|` stands for LF.
+pub fn text(alloc: Global, words: &str) -> Result<Vec<u8>, AllocError> {
+    let mut text = Vec::new(alloc);
+    for byte in words.as_bytes() {
+        text.push(if *byte == b'|' { b'\n' } else { *byte })?;
+    }
+    Ok(text)
 }
 
 /// The bytes of a word: `-` for none, else pieces that `+` joins, each of them hexadecimal digits,
@@ -66,62 +71,184 @@ pub fn bytes(alloc: Global, word: &str) -> Result<Vec<u8>, Unanswered> {
         return Ok(bytes);
     }
     for piece in word.split('+') {
-        put_piece(alloc, piece, &mut bytes)?;
+        put_digits(alloc, piece, &mut bytes)?;
     }
     Ok(bytes)
 }
 
-/// The text that words are, with one space between two of them and LF for each `|`.
-pub fn text(alloc: Global, words: &[&str]) -> Result<Vec<u8>, AllocError> {
-    let mut text = Vec::new(alloc);
-    for (i, word) in words.iter().enumerate() {
-        if i > 0 {
-            text.push(b' ')?;
-        }
-        for byte in word.as_bytes() {
-            text.push(if *byte == b'|' { b'\n' } else { *byte })?;
-        }
-    }
-    Ok(text)
+/// Appends the bytes of a piece of a word.
+fn put_digits(alloc: Global, piece: &str, bytes: &mut Vec<u8>) -> Result<(), Unanswered> {
+    let (digits, count) = counted(piece)?;
+    let digits = hex::decode(alloc, digits)?;
+    repeat(bytes, &digits, count)
 }
 
-/// Appends the bytes of a piece.
-fn put_piece(alloc: Global, piece: &str, bytes: &mut Vec<u8>) -> Result<(), Unanswered> {
-    let Some((digits, count)) = piece.split_once('*') else {
-        bytes.extend_from_slice(&hex::decode(alloc, piece)?)?;
-        return Ok(());
-    };
-    let repeated = hex::decode(alloc, digits)?;
-    for _ in 0..number(count)? {
-        bytes.extend_from_slice(&repeated)?;
+/// The digits of a piece of a word, and how many times they stand.
+fn counted(piece: &str) -> Result<(&str, u32), Unanswered> {
+    match piece.split_once('*') {
+        Some((digits, count)) => Ok((digits, number(count)?)),
+        None => Ok((piece, 1)),
     }
+}
+
+/// Appends bytes so many times.
+fn repeat(bytes: &mut Vec<u8>, repeated: &[u8], count: u32) -> Result<(), Unanswered> {
+    for _ in 0..count {
+        bytes.extend_from_slice(repeated)?;
+    }
+    Ok(())
+}
+
+/// The bytes of each word.
+pub fn all_bytes(alloc: Global, words: &[&str]) -> Result<Vec<Vec<u8>>, Unanswered> {
+    let mut all = Vec::new(alloc);
+    for word in words {
+        put_bytes(&mut all, bytes(alloc, word)?)?;
+    }
+    Ok(all)
+}
+
+/// The bytes of each part of a word; colons part them.
+pub fn parts(alloc: Global, word: &str) -> Result<Vec<Vec<u8>>, Unanswered> {
+    let mut all = Vec::new(alloc);
+    for part in word.split(':') {
+        put_bytes(&mut all, bytes(alloc, part)?)?;
+    }
+    Ok(all)
+}
+
+fn put_bytes(all: &mut Vec<Vec<u8>>, bytes: Vec<u8>) -> Result<(), AllocError> {
+    all.push(bytes)?;
     Ok(())
 }
 
 /// The number that a word writes in decimal.
 pub fn number(word: &str) -> Result<u32, Unanswered> {
-    Ok(word.parse::<u32>()?)
-}
-
-/// So many bytes, in hexadecimal.
-pub fn array<const N: usize>(word: &str) -> Result<[u8; N], Unanswered> {
-    let mut bytes = [0; N];
-    hex::decode_to_slice(word, &mut bytes)?;
-    Ok(bytes)
-}
-
-/// The number that two bytes in hexadecimal are.
-pub fn two_bytes(word: &str) -> Result<u16, Unanswered> {
-    Ok(u16::from_be_bytes(array::<2>(word)?))
-}
-
-/// The tag that one byte or two in hexadecimal are, or are to be.
-pub fn tag(word: &str) -> Result<u16, Unanswered> {
-    if word.len() == 2 {
-        let [low] = array::<1>(word)?;
-        return Ok(u16::from(low));
+    match word.parse::<u32>() {
+        Ok(number) => Ok(number),
+        Err(_) => Err(Unanswered::Unclear),
     }
-    two_bytes(word)
+}
+
+/// The number below 256 that a word writes in decimal.
+pub fn small(word: &str) -> Result<u8, Unanswered> {
+    match u8::try_from(number(word)?) {
+        Ok(number) => Ok(number),
+        Err(_) => Err(Unanswered::Unclear),
+    }
+}
+
+/// Whether a word is `yes`; else it is `no`.
+pub fn truth(word: &str) -> Result<bool, Unanswered> {
+    match word {
+        "yes" => Ok(true),
+        "no" => Ok(false),
+        _ => Err(Unanswered::Unclear),
+    }
+}
+
+/// Bytes as an array, where they are so many.
+pub fn fixed<const N: usize>(bytes: &[u8]) -> Option<[u8; N]> {
+    match <[u8; N]>::try_from(bytes) {
+        Ok(bytes) => Some(bytes),
+        Err(_) => None,
+    }
+}
+
+/// One array, where that is all that was given.
+pub fn one<const A: usize>(given: &[Vec<u8>]) -> Option<[u8; A]> {
+    let [first] = given else {
+        return None;
+    };
+    fixed::<A>(first)
+}
+
+/// Two arrays, where they are all that was given.
+pub fn two<const A: usize, const B: usize>(given: &[Vec<u8>]) -> Option<([u8; A], [u8; B])> {
+    let [first, second] = given else {
+        return None;
+    };
+    match (fixed::<A>(first), fixed::<B>(second)) {
+        (Some(first), Some(second)) => Some((first, second)),
+        _ => None,
+    }
+}
+
+/// Three arrays, where they are all that was given.
+pub fn three<const A: usize, const B: usize, const C: usize>(
+    given: &[Vec<u8>],
+) -> Option<([u8; A], [u8; B], [u8; C])> {
+    let [first, others @ ..] = given else {
+        return None;
+    };
+    let first = fixed::<A>(first)?;
+    let (second, third) = two::<B, C>(others)?;
+    Some((first, second, third))
+}
+
+/// A buffer that holds bytes, where they fit in it.
+pub fn buffer<const N: usize>(bytes: &[u8]) -> Option<ArrayVec<u8, N>> {
+    let mut out = ArrayVec::new();
+    match out.try_extend_from_slice(bytes) {
+        Ok(()) => Some(out),
+        Err(_) => None,
+    }
+}
+
+/// A piece of an answer.
+#[derive(Clone, Copy)]
+pub enum Piece<'a> {
+    /// A text, as it is.
+    Text(&'a str),
+    /// A number, in decimal.
+    Number(u32),
+    /// Bytes, as `shown` writes them.
+    Bytes(&'a [u8]),
+}
+
+/// The answer that pieces are, one behind the other.
+pub fn line(alloc: Global, pieces: &[Piece<'_>]) -> Answer {
+    let mut line = String::new(alloc);
+    put_pieces(alloc, pieces, &mut line)?;
+    Ok(line)
+}
+
+/// Appends pieces to a line.
+pub fn put_pieces(
+    alloc: Global,
+    pieces: &[Piece<'_>],
+    line: &mut String,
+) -> Result<(), Unanswered> {
+    for piece in pieces {
+        let piece = shown_piece(alloc, piece)?;
+        line.push_str(&piece)?;
+    }
+    Ok(())
+}
+
+/// Appends a word to a line, behind a space where it is not the first one.
+pub fn put_word(line: &mut String, word: &str) -> Result<(), AllocError> {
+    if !line.is_empty() {
+        line.push_str(" ")?;
+    }
+    line.push_str(word)
+}
+
+fn shown_piece(alloc: Global, piece: &Piece<'_>) -> Answer {
+    match piece {
+        Piece::Text(text) => word(alloc, text),
+        Piece::Number(number) => shown_number(alloc, *number),
+        Piece::Bytes(bytes) => shown(alloc, bytes),
+    }
+}
+
+/// An answer of one word.
+pub fn word(alloc: Global, text: &str) -> Answer {
+    Ok(String::from_str(alloc, text)?)
+}
+
+fn shown_number(alloc: Global, number: u32) -> Answer {
+    Ok(format!(in alloc; "{number}")?)
 }
 
 /// Bytes as a word of an answer: in hexadecimal, `-` where there are none, and their number and
@@ -131,31 +258,28 @@ pub fn shown(alloc: Global, bytes: &[u8]) -> Answer {
         return word(alloc, "-");
     }
     if bytes.len() <= MAX_SHOWN {
-        return Ok(hex::encode(alloc, bytes)?);
+        return in_hexadecimal(alloc, bytes);
     }
+    digest(alloc, bytes)
+}
+
+fn in_hexadecimal(alloc: Global, bytes: &[u8]) -> Answer {
+    Ok(hex::encode(alloc, bytes)?)
+}
+
+fn digest(alloc: Global, bytes: &[u8]) -> Answer {
     let mut hasher = Sha256::new();
     hasher.update(bytes);
     let digest = hasher.finalize();
-    let digest = hex::encode(alloc, digest.as_slice())?;
+    let digest = in_hexadecimal(alloc, digest.as_slice())?;
     let count = bytes.len();
     Ok(format!(in alloc; "{count} bytes, SHA-256 {digest}")?)
 }
 
-/// A buffer that holds the bytes of a word.
-pub fn buffer<const N: usize>(alloc: Global, word: &str) -> Result<ArrayVec<u8, N>, Unanswered> {
-    let bytes = bytes(alloc, word)?;
-    let mut out = ArrayVec::new();
-    if out.try_extend_from_slice(&bytes).is_err() {
-        return Err(Unanswered::Unclear);
-    }
-    Ok(out)
-}
-
 /// What a buffer holds after something was written behind what it held, or was to be.
 pub fn shown_buffer(alloc: Global, fits: bool, bytes: &[u8]) -> Answer {
-    let held = shown(alloc, bytes)?;
     if fits {
-        return Ok(held);
+        return shown(alloc, bytes);
     }
-    Ok(format!(in alloc; "full {held}")?)
+    line(alloc, &[Piece::Text("full "), Piece::Bytes(bytes)])
 }
