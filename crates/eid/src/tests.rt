@@ -4,7 +4,6 @@ mod calls;
 mod moment;
 mod sessions;
 
-use crate::exit::Exit;
 use crate::program::program;
 use eid_base::{MemoryFolder, MemorySink};
 use std::alloc::AllocError;
@@ -67,54 +66,28 @@ fn push_file(
     Ok(())
 }
 
-/// Puts files behind others.
-fn push_files(
-    rt: &HostRuntime,
-    files: &mut Files,
-    more: &[(&str, &[u8])],
-) -> Result<(), AllocError> {
-    for (name, bytes) in more {
-        push_file(rt, files, name, bytes)?;
-    }
-    Ok(())
-}
-
 /// A folder with these files, of which one call fails, 0 for none.
 fn folder_of(rt: &HostRuntime, files: Files, fail: u32) -> Result<MemoryFolder, AllocError> {
     let fails = Vec::from_slice(rt.alloc(), &[fail])?;
     Ok(MemoryFolder::new(rt.alloc(), files, fails))
 }
 
-/// A folder with these files.
-fn folder_with(rt: &HostRuntime, files: &[(&str, &[u8])]) -> Result<MemoryFolder, AllocError> {
-    let mut held = Vec::new(rt.alloc());
-    push_files(rt, &mut held, files)?;
-    folder_of(rt, held, 0)
+/// The configuration with this EF.CardAccess.
+fn chip(rt: &HostRuntime, access: &str) -> Result<String, AllocError> {
+    joined(rt, &[CHIP, access])
 }
 
-/// What the program ends in that is called with these words.
-fn spoken(
-    rt: &HostRuntime,
-    said: &str,
-    folder: &mut MemoryFolder,
-    out: &mut MemorySink,
-) -> Result<Exit, AllocError> {
-    let words = words(rt, said)?;
-    Ok(program(rt.alloc(), words.as_slice(), folder, out))
-}
-
-/// The folder in which `make` was called on the configuration with this EF.CardAccess.
-fn made(rt: &HostRuntime, access: &str) -> Result<MemoryFolder, AllocError> {
-    let chip = joined(rt, &[CHIP, access])?;
-    let mut folder = folder_with(rt, &[("chip", chip.as_bytes())])?;
-    let mut out = MemorySink::new(rt.alloc(), Vec::new(rt.alloc()));
-    spoken(rt, "make chip image", &mut folder, &mut out)?;
-    Ok(folder)
-}
-
-/// The image that `make` makes of the configuration with this EF.CardAccess; no bytes where it makes none.
+/// The image that `make` makes of the configuration with this EF.CardAccess.
 fn image(rt: &HostRuntime, access: &str) -> Result<Vec<u8>, AllocError> {
-    let folder = made(rt, access)?;
+    let chip = chip(rt, access)?;
+    let mut files = Vec::new(rt.alloc());
+    push_file(rt, &mut files, "chip", chip.as_bytes())?;
+    let mut folder = folder_of(rt, files, 0)?;
+    let mut out = MemorySink::new(rt.alloc(), Vec::new(rt.alloc()));
+    let make = words(rt, "make chip image")?;
+    if program(rt.alloc(), make.as_slice(), &mut folder, &mut out).status() != 0 {
+        return Ok(Vec::new(rt.alloc()));
+    }
     Vec::from_slice(rt.alloc(), folder.file("image").unwrap_or(&[]))
 }
 

@@ -1,6 +1,7 @@
 //! What a call of the program ends in and prints, over folders and sinks that may fail.
-use super::{ACCESS, CHIP, Files, folder_of, holds, image, joined, push_file, push_files, spoken};
+use super::{ACCESS, chip, folder_of, holds, image, push_file, words};
 use crate::exit::Exit;
+use crate::program::program;
 use eid_base::{MemoryFolder, MemorySink};
 use std::alloc::AllocError;
 use std::test::Fail;
@@ -98,22 +99,6 @@ const REFUSALS: &[(&str, u8, &str, u32)] = &[
     ("answers: a space at the end", 8, "fault \n", 1),
 ];
 
-/// Puts the files of `TEXTS` and the configuration behind others.
-fn push_texts(rt: &HostRuntime, files: &mut Files) -> Result<(), AllocError> {
-    for (name, content) in TEXTS {
-        push_file(rt, files, name, content.as_bytes())?;
-    }
-    let chip = joined(rt, &[CHIP, "card_access = ''\n"])?;
-    push_file(rt, files, "chip", chip.as_bytes())
-}
-
-/// Puts the file of empty lines behind others.
-fn push_long(rt: &HostRuntime, files: &mut Files) -> Result<(), AllocError> {
-    let mut long = Vec::new(rt.alloc());
-    long.resize(1_048_577, b'\n')?;
-    push_file(rt, files, "long", long.as_slice())
-}
-
 /// The folder of a call, of which one call fails.
 fn folder_of_call(
     rt: &HostRuntime,
@@ -121,19 +106,22 @@ fn folder_of_call(
     text: &str,
     fail: u32,
 ) -> Result<MemoryFolder, AllocError> {
-    let short = &cells[..cells.len().min(65_535)];
     let mut files = Vec::new(rt.alloc());
-    push_texts(rt, &mut files)?;
-    push_long(rt, &mut files)?;
-    push_files(
+    for (name, content) in TEXTS {
+        push_file(rt, &mut files, name, content.as_bytes())?;
+    }
+    push_file(
         rt,
         &mut files,
-        &[
-            ("image", cells),
-            ("short", short),
-            ("text", text.as_bytes()),
-        ],
+        "chip",
+        chip(rt, "card_access = ''\n")?.as_bytes(),
     )?;
+    push_file(rt, &mut files, "image", cells)?;
+    push_file(rt, &mut files, "short", &cells[..cells.len().min(65_535)])?;
+    let mut long = Vec::new(rt.alloc());
+    long.resize(1_048_577, b'\n')?;
+    push_file(rt, &mut files, "long", long.as_slice())?;
+    push_file(rt, &mut files, "text", text.as_bytes())?;
     folder_of(rt, files, fail)
 }
 
@@ -146,32 +134,16 @@ struct End {
     kept: bool,
 }
 
-/// A sink of which one call fails, 0 for none.
-fn sink(rt: &HostRuntime, fail: u32) -> Result<MemorySink, AllocError> {
-    let fails = Vec::from_slice(rt.alloc(), &[fail])?;
-    Ok(MemorySink::new(rt.alloc(), fails))
-}
-
-/// What a call with these words comes to, over the image of these cells.
-fn called_over(
-    rt: &HostRuntime,
-    cells: &[u8],
-    said: &str,
-    text: &str,
-    fails: (u32, u32),
-) -> Result<End, AllocError> {
-    let (folder_fail, sink_fail) = fails;
-    let mut folder = folder_of_call(rt, cells, text, folder_fail)?;
-    let mut out = sink(rt, sink_fail)?;
-    let exit = spoken(rt, said, &mut folder, &mut out)?;
-    let kept = holds(&folder, "image", cells);
-    Ok(End { exit, out, kept })
-}
-
 /// What a call with these words comes to.
 fn called(rt: &HostRuntime, said: &str, text: &str, fails: (u32, u32)) -> Result<End, AllocError> {
     let cells = image(rt, ACCESS)?;
-    called_over(rt, cells.as_slice(), said, text, fails)
+    let (folder_fail, sink_fail) = fails;
+    let mut folder = folder_of_call(rt, cells.as_slice(), text, folder_fail)?;
+    let mut out = MemorySink::new(rt.alloc(), Vec::from_slice(rt.alloc(), &[sink_fail])?);
+    let spoken = words(rt, said)?;
+    let exit = program(rt.alloc(), spoken.as_slice(), &mut folder, &mut out);
+    let kept = holds(&folder, "image", cells.as_slice());
+    Ok(End { exit, out, kept })
 }
 
 /// The line or the key that an exit names, else 0.

@@ -1,7 +1,8 @@
 //! Sessions of worked examples: the rules and the answers of their commands. A separate simulator in Python computed
 //! them.
-use super::{ACCESS, folder_with, holds, image, joined, spoken};
-use eid_base::{MemoryFolder, MemorySink};
+use super::{ACCESS, folder_of, holds, image, joined, push_file, words};
+use crate::program::program;
+use eid_base::MemorySink;
 use std::alloc::AllocError;
 use std::test::Fail;
 
@@ -406,51 +407,26 @@ fn front(
     Ok(text)
 }
 
-/// The script of a session.
-fn script_of(rt: &HostRuntime, session: &Session) -> Result<String, AllocError> {
-    let sent = front(rt, &STEPS, session.sent, session.more)?;
-    joined(rt, &["on\n", sent.as_str()])
-}
-
-/// The folder of a session over the image of these cells.
-fn folder_of_session(
-    rt: &HostRuntime,
-    session: &Session,
-    cells: &[u8],
-) -> Result<MemoryFolder, AllocError> {
-    let script = script_of(rt, session)?;
-    let answers = joined(rt, session.answers)?;
-    folder_of_files(rt, cells, script.as_bytes(), answers.as_bytes())
-}
-
-/// A folder with an image, a script and answers.
-fn folder_of_files<'a>(
-    rt: &HostRuntime,
-    cells: &'a [u8],
-    script: &'a [u8],
-    answers: &'a [u8],
-) -> Result<MemoryFolder, AllocError> {
-    folder_with(
-        rt,
-        &[("image", cells), ("script", script), ("answers", answers)],
-    )
-}
-
-/// Whether the commands have these rules and answers in a trace.
-fn is_told(rt: &HostRuntime, session: &Session, trace: &[u8]) -> Result<bool, AllocError> {
-    let told = front(rt, &STEPS_TOLD, session.carried_out, session.told)?;
-    let given = rules_and_answers(rt, trace)?;
-    Ok(given.as_slice() == told.as_bytes())
-}
-
 /// Whether the commands have these rules and answers, and the image stays or not.
 fn is_so(rt: &HostRuntime, session: &Session) -> Result<bool, AllocError> {
     let cells = image(rt, session.config)?;
-    let mut folder = folder_of_session(rt, session, cells.as_slice())?;
+    let sent = front(rt, &STEPS, session.sent, session.more)?;
+    let script = joined(rt, &["on\n", sent.as_str()])?;
+    let answers = joined(rt, session.answers)?;
+    let told = front(rt, &STEPS_TOLD, session.carried_out, session.told)?;
+    let mut files = Vec::new(rt.alloc());
+    push_file(rt, &mut files, "image", cells.as_slice())?;
+    push_file(rt, &mut files, "script", script.as_bytes())?;
+    push_file(rt, &mut files, "answers", answers.as_bytes())?;
+    let mut folder = folder_of(rt, files, 0)?;
     let mut out = MemorySink::new(rt.alloc(), Vec::new(rt.alloc()));
-    let exit = spoken(rt, session.said, &mut folder, &mut out)?;
-    let told = is_told(rt, session, out.bytes())?;
-    Ok(exit.status() == 0 && told && holds(&folder, "image", cells.as_slice()) == session.kept)
+    let spoken = words(rt, session.said)?;
+    let exit = program(rt.alloc(), spoken.as_slice(), &mut folder, &mut out);
+    Ok(
+        exit.status() == 0
+            && rules_and_answers(rt, out.bytes())?.as_slice() == told.as_bytes()
+            && holds(&folder, "image", cells.as_slice()) == session.kept,
+    )
 }
 
 #[test]
