@@ -1,17 +1,16 @@
 -- The management of the PIN: what the last PACE gives the right to.
-use Rattle.std.proofs.Common.{◌≡◌, ℕ, ◌<◌, Bool, true, false, ◌==◌, ◌||◌, ◌&&◌, not, List, [], ◌∷◌, ◌++◌, length, Option, Some, None, refl, sym, ap, ◌∙◌, arith}
-use Rattle.std.specs.Prelude.{is_some, nat_le, option_map, if◌then◌else◌}
+use Rattle.std.proofs.Common.{◌≡◌, ℕ, Bool, true, false, ◌==◌, List, [], ◌∷◌, length, Option, Some, None, refl, sym, ap, arith}
+use Rattle.std.specs.Prelude.{is_some, nat_le, option_map}
 use Rattle.std.proofs.lemmas.Bool.Decides.{nat_tests}
 use Rattle.eid_apdu.specs.Command.{PlainCommand}
-use Rattle.eid_record.specs.Plain.{FullRecord, PlainEffect, SetPin, Unblock}
+use Rattle.eid_record.specs.Plain.{FullRecord, SetPin, Unblock}
 use Rattle.eid_record.specs.declared.fields.Password.{Password}
 use Rattle.eid_record.specs.declared.fields.Password.TheVariants.{Can, Pin, Puk}
 use Rattle.eid_password.specs.Passwords.{is_pin, is_puk}
-use Rattle.eid_model.specs.declared.kind.Kind.{Kind}
 use Rattle.eid_model.specs.declared.kind.Kind.TheVariants.{ChangePin, UnblockPin}
 use Rattle.eid_model.specs.Rules.{is_formed, kind_rules, was_with}
 use Rattle.eid_model.specs.Runs.{entered}
-use Rattle.eid_model.specs.Sessions.{State, PaceMemory}
+use Rattle.eid_model.specs.Sessions.{State}
 use Rattle.eid_chip.specs.States.{memory}
 use Rattle.eid_chip.specs.Steps.{CommitsOne, PlainRefusal, known, refusal_by}
 use Rattle.eid_chip.specs.declared.session.LastPace.{LastPace}

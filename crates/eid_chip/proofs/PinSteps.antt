@@ -1,5 +1,5 @@
 -- How a command ends that commits: the tokens of a PACE with the PIN, and one effect.
-use Rattle.std.proofs.Common.{◌≡◌, ℕ, ◌+◌, ◌-◌, ◌<◌, ◌≤◌, Bool, true, false, ◌==◌, ◌||◌, List, [], ◌∷◌, ◌++◌, length, Option, Some, None, Result, Ok, Err, refl, sym, ap, ◌∙◌, subst, arith}
+use Rattle.std.proofs.Common.{◌≡◌, ℕ, ◌+◌, ◌-◌, ◌<◌, ◌≤◌, Bool, true, false, List, [], ◌∷◌, ◌++◌, Option, Some, None, Result, Ok, Err, refl, sym, ap, ◌∙◌, arith}
 use Rattle.std.specs.Prelude.{◌⊎◌, is_none, nat_le, option_map, if◌then◌else◌}
 use Rattle.std.specs.Str.{bytes_eq}
 use Rattle.std.proofs.lemmas.Bool.Decides.{nat_tests}
@@ -10,9 +10,8 @@ use Rattle.eid_copro.specs.Seen.{CoproSeen}
 use Rattle.eid_record.specs.declared.fields.Password.{Password}
 use Rattle.eid_record.specs.declared.fields.Password.TheVariants.{Can, Pin, Puk}
 use Rattle.eid_password.specs.Passwords.{is_pin}
-use Rattle.eid_pace.specs.Check.{check_given, done_by, terminal_token, chip_token}
-use Rattle.eid_pace.specs.Rules.{token_rule}
-use Rattle.eid_pace.specs.States.{PlainAgreed, PlainDone}
+use Rattle.eid_pace.specs.Check.{done_by, terminal_token, chip_token}
+use Rattle.eid_pace.specs.States.{PlainDone}
 use Rattle.eid_pace.specs.View.{agreed_view}
 use Rattle.eid_pace.specs.declared.agreed.Agreed.{Agreed}
 use Rattle.eid_record.specs.Plain.{FullRecord, PlainEffect, Spend, Refill}
@@ -23,18 +22,17 @@ use Rattle.eid_store.specs.Stands.{stands}
 use Rattle.eid_store.specs.Store as stored
 use Rattle.eid_model.specs.declared.kind.Kind.{Kind}
 use Rattle.eid_model.specs.declared.kind.Kind.TheVariants.{MutualAuthentication}
-use Rattle.eid_model.specs.Answers.{Outcome, outcome_of, outcome_by, question_by, due_by, status_alone, data_alone}
+use Rattle.eid_model.specs.Answers.{outcome_of, outcome_by, question_by, due_by, status_alone, data_alone}
 use Rattle.eid_model.specs.Bodies.{data_in, holds_value}
-use Rattle.eid_model.specs.Rules.{RuleRow, LAST_NUMBER, committing, concerns, kind_rules, answer_rules, commit_rules, proof_rules, first_failed, is_token, token_effects, token_status, to_commit}
-use Rattle.eid_model.specs.Runs.{Phase, Idle, HasSecret, entered}
-use Rattle.eid_model.specs.Sessions.{State, memory_of, keys_of, channel_after}
-use Rattle.eid_chip.specs.Commits.{Wrote, WasCutBehind}
+use Rattle.eid_model.specs.Rules.{RuleRow, LAST_NUMBER, kind_rules, answer_rules, commit_rules, proof_rules, first_failed, token_effects, token_status, to_commit}
+use Rattle.eid_model.specs.Runs.{entered}
+use Rattle.eid_model.specs.Sessions.{State}
+use Rattle.eid_chip.specs.Commits.{WasCutBehind}
 use Rattle.eid_chip.specs.Held.{held}
 use Rattle.eid_chip.specs.States.{state}
-use Rattle.eid_chip.specs.Steps.{CommitsOne, SendsToken, IsEndedByKind, IsEnding, IsNext, at_tokens, known, outcome_seen, refusal_by, state_due, state_left, state_with_pace}
-use Rattle.eid_chip.specs.Transitions.{state_answered, state_refused, two_messages_later, without_run}
-use Rattle.eid_chip.specs.Worlds.{World, world}
-use Rattle.eid_chip.specs.declared.reaction.Ending.{Ending}
+use Rattle.eid_chip.specs.Steps.{CommitsOne, SendsToken, IsEndedByKind, at_tokens, known, state_due, state_left, state_with_pace}
+use Rattle.eid_chip.specs.Transitions.{state_refused, two_messages_later, without_run}
+use Rattle.eid_chip.specs.Worlds.{world}
 use Rattle.eid_chip.specs.declared.reaction.Ending.TheVariants.{Answered, Lost}
 use Rattle.eid_chip.specs.declared.reaction.Reaction.{Reaction}
 use Rattle.eid_chip.specs.declared.session.Memory.{Memory}
@@ -42,7 +40,7 @@ use Rattle.eid_chip.specs.declared.session.Session.{Session}
 use Rattle.eid_chip.proofs.CarriedOut.{unasked_at}
 use Rattle.eid_chip.proofs.Commits.{Has}
 use Rattle.eid_chip.proofs.Outcomes.{ended_uncommitted, ends_so, if_not, passed}
-use Rattle.eid_chip.proofs.PaceSteps.{outcome_is, not_due_by, token_parts, last_data}
+use Rattle.eid_chip.proofs.PaceSteps.{outcome_is, not_due_by, last_data}
 
 -- ---- the tokens of a PACE with the PIN
 

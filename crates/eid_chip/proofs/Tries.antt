@@ -1,6 +1,6 @@
 -- A PACE with the PIN goes on only while a try is left.
 use Rattle.std.proofs.Common.{◌≡◌, ℕ, ◌≤◌, Bool, true, false, ◌==◌, List, [], Option, Some, None, refl, sym, ap, ◌∙◌, subst, inl, inr}
-use Rattle.std.specs.Prelude.{◌⊎◌, if◌then◌else◌}
+use Rattle.std.specs.Prelude.{◌⊎◌}
 use Rattle.std.proofs.lemmas.Bool.{leb-true, eqb-true}
 use Rattle.eid_apdu.specs.Command.{PlainCommand}
 use Rattle.eid_apdu.specs.Answer.{PlainReply}
@@ -29,7 +29,7 @@ use Rattle.eid_chip.specs.Transitions.{state_answered}
 use Rattle.eid_chip.specs.Tries.{tries_pin, IsTryLeft}
 use Rattle.eid_chip.specs.Worlds.{World, IsMounted}
 use Rattle.eid_chip.specs.declared.reaction.Ending.{Ending}
-use Rattle.eid_chip.specs.declared.reaction.Ending.TheVariants.{Answered, Lost}
+use Rattle.eid_chip.specs.declared.reaction.Ending.TheVariants.{Answered}
 use Rattle.eid_chip.specs.declared.reaction.Reaction.{Reaction}
 use Rattle.eid_chip.specs.declared.session.Run.{Run}
 use Rattle.eid_chip.specs.declared.session.Run.TheVariants as runs

@@ -1,6 +1,5 @@
 -- Steps that put no question.
-use Rattle.std.proofs.Common.{◌≡◌, sym, [], Option, refl, subst, arith}
-use Rattle.std.proofs.lemmas.List.{append-nil}
+use Rattle.std.proofs.Common.{◌≡◌, [], Option, refl}
 use Rattle.eid_apdu.specs.Command.{PlainCommand}
 use Rattle.eid_apdu.specs.Answer.{PlainReply}
 use Rattle.eid_copro.specs.Seen.{CoproSeen}

@@ -1,6 +1,6 @@
 -- Inside: cited by private contracts alone.
 -- The tries of the PIN while a PACE with it is under way.
-use Rattle.std.specs.Prelude.{◌≡◌, ℕ, ◌≤◌, Bool, true, false}
+use Rattle.std.specs.Prelude.{◌≡◌, ◌≤◌, Bool, true, false}
 use Rattle.eid_record.specs.Plain.{PlainRecord}
 use Rattle.eid_password.specs.Passwords.{is_pin}
 use Rattle.eid_pace.specs.View.{nonce_sent_view, mapped_view, agreed_view}

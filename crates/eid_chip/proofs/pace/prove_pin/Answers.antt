@@ -1,5 +1,5 @@
 -- How each return ends: by the commits that finished, and the comparison of the token.
-use Rattle.std.proofs.Common.{◌≡◌, ℕ, ◌+◌, ◌-◌, ◌≤◌, ◌++◌, List, [], refl, ap, sym, ◌∙◌, subst, arith}
+use Rattle.std.proofs.Common.{◌≡◌, ℕ, ◌+◌, ◌-◌, ◌++◌, List, [], refl, ap, sym, ◌∙◌, subst, arith}
 use Rattle.std.specs.Str.{bytes_eq}
 use Rattle.eid_apdu.specs.Answer.{plain_reply}
 use Rattle.eid_base.specs.declared.codes.Rule.{Rule}
@@ -7,7 +7,7 @@ use Rattle.eid_record.specs.Plain.{PlainRecord, Spend, Refill}
 use Rattle.eid_record.specs.Effect.{committed}
 use Rattle.eid_record.specs.View.{record_view}
 use Rattle.eid_tlv.specs.Objects.{object}
-use Rattle.eid_pace.specs.Check.{check_given, done_by, terminal_token, chip_token}
+use Rattle.eid_pace.specs.Check.{done_by, terminal_token, chip_token}
 use Rattle.eid_pace.specs.Rules.{token_rule}
 use Rattle.eid_pace.specs.View.{agreed_view, done_view}
 use Rattle.eid_model.specs.Answers.{data_alone, previous_name, status_alone}

@@ -1,5 +1,5 @@
 -- What was chosen is the selection in the body.
-use Rattle.std.proofs.Common.{ℕ, refl, ap, sym, ◌∙◌}
+use Rattle.std.proofs.Common.{refl, ap, sym, ◌∙◌}
 use Rattle.eid_apdu.specs.Command.{plain_command}
 use Rattle.eid_apdu.specs.Answer.{plain_reply}
 use Rattle.eid_record.specs.Plain.{PlainRecord}

@@ -1,5 +1,5 @@
 -- How each return ends: by the commit number, and by whether the commit was cut.
-use Rattle.std.proofs.Common.{◌≡◌, ℕ, ◌≤◌, [], refl, ap, sym, ◌∙◌, subst, arith}
+use Rattle.std.proofs.Common.{◌≡◌, [], ap, sym, ◌∙◌, subst, arith}
 use Rattle.eid_apdu.specs.Answer.{plain_reply}
 use Rattle.eid_base.specs.declared.codes.Rule.{Rule}
 use Rattle.eid_record.specs.Plain.{PlainRecord}

@@ -1,12 +1,12 @@
 -- An unblocking is refused by the first failed rule, or committed.
-use Rattle.std.proofs.Common.{◌≡◌, [], refl, ap, sym, ◌∙◌}
+use Rattle.std.proofs.Common.{[], refl, ap, sym, ◌∙◌}
 use Rattle.eid_apdu.specs.Command.{plain_command}
 use Rattle.eid_apdu.specs.Answer.{plain_reply}
 use Rattle.eid_base.specs.declared.codes.Rule.{Rule}
 use Rattle.eid_pace.proofs.Unasked.{not_asked}
 use Rattle.eid_record.specs.Plain.{PlainRecord}
-use Rattle.eid_password.specs.Passwords.{is_pin, is_puk}
-use Rattle.eid_model.specs.declared.kind.Kind.TheVariants.{ChangePin, UnblockPin}
+use Rattle.eid_password.specs.Passwords.{is_puk}
+use Rattle.eid_model.specs.declared.kind.Kind.TheVariants.{UnblockPin}
 use Rattle.eid_chip.specs.Held.{held}
 use Rattle.eid_chip.specs.States.{state}
 use Rattle.eid_chip.proofs.HeldFiles.{held_fields}
