@@ -10,6 +10,10 @@ LEAST_WRITES = 5
 abbrev pub MOST_WRITES : ℕ
 MOST_WRITES = 384
 
+-- the writes of mounting, at most
+abbrev pub MOST_MOUNTING : ℕ
+MOST_MOUNTING = 40
+
 -- So many commits finished: the device was written to so often, and cut none of these writes.
 pub record Wrote (finished : ℕ) (old new : Device) : Type 0 where
   pub writes : ℕ

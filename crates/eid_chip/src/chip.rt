@@ -14,6 +14,7 @@ ghost use Rattle.eid_sm.specs.Plain.{plain_of};
 ghost use Rattle.eid_model.specs.Moments.{PoweredOn, PoweredOff, ends_session_by};
 ghost use Rattle.eid_model.specs.Kinds.{goes_on_in_run};
 ghost use Rattle.eid_model.specs.Legal.{silent};
+ghost use Rattle.eid_chip.specs.Commits.{MOST_MOUNTING};
 ghost use Rattle.eid_chip.specs.Held.{held};
 ghost use Rattle.eid_chip.specs.States.{next_of};
 ghost use Rattle.eid_chip.specs.Tries.{IsTryLeft};
@@ -333,6 +334,7 @@ impl Chip {
         ensures untouched { result ≡ Err MountError.BadImage → E.cells cells.new ≡ E.cells cells.old }
         ensures same { stands (E.cells cells.new) ≡ stands (E.cells cells.old) }
         ensures layout { slice_index (E.cells cells.new) 0 ≡ slice_index (E.cells cells.old) 0 }
+        ensures bound { mount_cost (E.cells cells.old) ≤ MOST_MOUNTING }
         ensures device { Mounts (mount_cost (E.cells cells.old)) (record (E.device cells.old) { has_power = true }) (E.device cells.new) result }
     {
         cells.power(true);

@@ -1,6 +1,7 @@
 -- What a line made, and runs with one line more.
-use Rattle.std.proofs.Common.{◌≡◌, ◌≢◌, ℕ, ◌+◌, ◌-◌, ◌<◌, ◌≤◌, Bool, true, false, ◌==◌, ◌||◌, IsTrue, List, [], ◌∷◌, ◌++◌, length, take, drop, get_or, map, Option, Some, None, Result, Ok, Err, refl, sym, ap, ◌∙◌, subst, append_assoc, append-nil, length-append, arith, inl, inr}
-use Rattle.std.specs.Prelude.{IsSome, OnOk, OnErr, is_some, is_none, slice_index, if◌then◌else◌}
+use Rattle.std.proofs.Common.{◌≡◌, ◌≢◌, ℕ, ◌+◌, ◌-◌, ◌*◌, ◌^◌, ◌<◌, ◌≤◌, Bool, true, false, ◌==◌, ◌||◌, IsTrue, List, [], ◌∷◌, ◌++◌, length, take, drop, get_or, map, Option, Some, None, Result, Ok, Err, refl, sym, ap, ◌∙◌, subst, append_assoc, append-nil, length-append, arith, inl, inr}
+use Rattle.std.specs.Prelude.{IsSome, OnOk, OnErr, is_some, is_none, nat_le, nat_lt, option_map, slice_index, if◌then◌else◌}
+use Rattle.std.proofs.lemmas.Bool.{eqb-true}
 use Rattle.std.proofs.lemmas.Bool.Decides.{nat_tests}
 use Rattle.std.proofs.lemmas.List.{take_more, map-append, take-append-drop, drop_at}
 use Rattle.eid_base.specs.Faults.{Rose}
@@ -19,15 +20,23 @@ use Rattle.eid_model.specs.Ledger.{kept, MayHold}
 use Rattle.eid_model.specs.Moments.{Event, PoweredOn, PoweredOff, Received, PlainMoment, on, asked, lost}
 use Rattle.eid_model.specs.Trace.{text, trace}
 use Rattle.eid_model.proofs.Journals.{only_journal}
-use Rattle.eid_chip.specs.Commits.{WasCutBehind}
+use Rattle.eid_chip.specs.Commits.{LEAST_WRITES, MOST_WRITES, MOST_MOUNTING, WasCutBehind}
+use Rattle.eid_store.specs.Cost.{once}
 use Rattle.eid_chip.specs.Fits.{Scene, scene, Fits, Follows, Handles, IsSound, IsSoundRunning, Came, Silence, Answer, Loss, CameOver, moment_of, is_silence, leaves_off, found, is_off}
 use Rattle.eid_chip.specs.States.{ChipView, RunningView}
 use Rattle.eid_script.specs.declared.script.Line.{Line}
 use Rattle.eid_script.specs.Scripts.{ScriptLine, OnLine, OffLine, ApduLine, CutLine, plain_line}
-use Rattle.eid_run.specs.Runs.{LineEffect, Did, Planned, line_for, journal, is_plan, line_of, IsFrontOfTrace, RanLines, DidSomeLines, Outside}
-use Rattle.eid_run.specs.Lines.{is_cut_line, text_of, was_cut, planned_by, IsLine, Keeps, DidLine, BrokeOffLine, IsRunSoFar}
+use Rattle.eid_run.specs.Runs.{LineEffect, Did, Planned, line_for, journal, is_plan, line_of, IsFrontOfTrace, RanLines, DidSomeLines, Outside, Stretch, stretch, longer, is_power_on, IsAsPlanned, IsInStretch, CutsAsPlanned}
+use Rattle.eid_run.specs.Lines.{is_cut_line, text_of, was_cut, planned_by, Spends, SpendsBy, IsAhead, IsAheadIn, IsLine, Keeps, DidLine, BrokeOffLine, IsRunSoFar}
 
 -- ---- a power-on
+
+-- a plan that names none of these writes names a later one
+not_within : (planned writes : ℕ) → 0 < planned → ((1 ≤ planned) × (planned ≤ writes) → ⊥) → writes < planned
+not_within planned writes some other = by (nat_le planned writes) refl where
+  by : (b : Bool) → nat_le planned writes ≡ b → writes < planned
+  by true is = absurd (other (some, let le : planned ≤ writes = grind (arith, nat_tests) in le))
+  by false is = grind (arith, nat_tests)
 
 found_lost : (r : Result ℕ MountError) (powered : Bool) → r ≢ Err BadImage → was_cut powered (Did (silent (PoweredOn (found r)))) ≡ true → r ≡ Err Cut
 found_lost (Ok number) powered good lost = absurd (cc)
@@ -39,15 +48,38 @@ found_kept (Ok number) powered good kept = refl
 found_kept (Err Cut) powered good kept = absurd (kept refl)
 found_kept (Err BadImage) powered good kept = absurd (good refl)
 
+-- the writes that a power-on takes from a plan
+on_spends : (powered : Bool) (r : Result ℕ MountError) (writes : ℕ) (old new : Device) → r ≢ Err BadImage → writes ≤ MOST_MOUNTING → Mounts writes (record old { has_power = true }) new r → IsTrue old.told
+    → Spends old.planned new.planned 0 1 (was_cut powered (Did (silent (PoweredOn (found r)))))
+on_spends powered (Ok number) writes old new good few device told =
+    let planned : new.planned ≡ old.planned - writes = ap (λ (d : Device). d.planned) device.mounted in
+    let spared = device.spared told in
+    let beyond : 0 < old.planned → writes < old.planned = λ some. not_within old.planned writes some spared in
+    record {
+      unplanned = λ none. (omega (arith, planned, none), refl);
+      ahead = λ some kept. let over = beyond some in (omega (arith, planned, over), omega (arith, planned, over), omega (arith, planned, over, few));
+      strikes = λ some struck. absurd (cc);
+    }
+on_spends powered (Err Cut) writes old new good few device told =
+    let cut = device.cut refl in
+    let struck = device.struck told refl in
+    record {
+      unplanned = λ none. absurd (omega (arith, struck.0, none));
+      ahead = λ some kept. absurd (cc);
+      strikes = λ some is. (cut.planned, omega (arith, some), omega (arith, struck.1, few));
+    }
+on_spends powered (Err BadImage) writes old new good few device told = absurd (good refl)
+
 -- a power-on, as the chip says it
-pub line_on : (old new : Scene) (r : Result ℕ MountError) (writes : ℕ) (log : List Ask) → r ≢ Err BadImage → Follows old new (silent (PoweredOn (found r))) → Mounts writes (record old.device { has_power = true }) new.device r
+pub line_on : (old new : Scene) (r : Result ℕ MountError) (writes : ℕ) (log : List Ask) → r ≢ Err BadImage → writes ≤ MOST_MOUNTING → Follows old new (silent (PoweredOn (found r))) → Mounts writes (record old.device { has_power = true }) new.device r
     → IsLine old new log log OnLine (Did (silent (PoweredOn (found r))))
-line_on old new r writes log good follows device = record {
+line_on old new r writes log good few follows device = record {
   step = follows;
   logged = sym (append-nil log);
   carried = refl;
   cause = λ lost. (device.cut (found_lost r (is_some old.chip.running) good lost)).rose;
   unplanned = λ told none. found_kept r (is_some old.chip.running) good (λ is. let struck = device.struck told is in absurd (omega (arith, struck.0, none)));
+  spends = λ told. on_spends (is_some old.chip.running) r writes old.device new.device good few device told;
 }
 
 pub keeps_on : (old new : Scene) (r : Result ℕ MountError) (writes : ℕ) → r ≢ Err BadImage → Mounts writes (record old.device { has_power = true }) new.device r → IsSound new → OnErr r (new.chip.running ≡ None)
@@ -58,6 +90,7 @@ keeps_on old new (Ok number) writes good device sound off layout alive = record 
   layout = layout;
   told = ap (λ (d : Device). d.told) device.mounted;
   later = omega (arith, ap (λ (d : Device). d.cuts) device.mounted);
+  counted = λ told. omega (arith, ap (λ (d : Device). d.cuts) device.mounted);
   unplanned = λ told plain none. ap (λ (d : Device). d.planned) device.mounted ∙ rw none (omega arith);
 }
 keeps_on old new (Err Cut) writes good device sound off layout alive =
@@ -68,14 +101,30 @@ keeps_on old new (Err Cut) writes good device sound off layout alive =
       layout = layout;
       told = cut.told;
       later = cut.never_falls;
+      counted = λ told. omega (arith, cut.by_one told);
       unplanned = λ told plain none. cut.planned;
     }
 keeps_on old new (Err BadImage) writes good device sound off layout alive = absurd (good refl)
 
 -- ---- a power-off
 
-pub line_off : (old new : Scene) (log : List Ask) → Follows old new (silent PoweredOff) → IsLine old new log log OffLine (Did (silent PoweredOff))
-line_off old new log follows = record { step = follows; logged = sym (append-nil log); carried = refl; cause = λ lost. absurd (cc); unplanned = λ told none. refl }
+-- a plan that stays as it is
+stays : (before now : ℕ) → now ≡ before → Spends before now 0 0 false
+stays before now same = record {
+  unplanned = λ none. (omega (arith, same, none), refl);
+  ahead = λ some kept. (omega (arith, same, some), omega (arith, same), omega (arith, same));
+  strikes = λ some struck. absurd (cc);
+}
+
+pub line_off : (old new : Scene) (log : List Ask) → Follows old new (silent PoweredOff) → new.device ≡ record old.device { has_power = false } → IsLine old new log log OffLine (Did (silent PoweredOff))
+line_off old new log follows device = record {
+  step = follows;
+  logged = sym (append-nil log);
+  carried = refl;
+  cause = λ lost. absurd (cc);
+  unplanned = λ told none. refl;
+  spends = λ told. stays old.device.planned new.device.planned (ap (λ (d : Device). d.planned) device);
+}
 
 pub keeps_off : (old new : Scene) → new.chip.running ≡ None → new.cells ≡ old.cells → new.device ≡ record old.device { has_power = false } → Keeps old new OffLine
 keeps_off old new off cells device = record {
@@ -84,6 +133,7 @@ keeps_off old new off cells device = record {
   layout = ap (λ (c : List ℕ). slice_index c 0) cells;
   told = ap (λ (d : Device). d.told) device;
   later = omega (arith, ap (λ (d : Device). d.cuts) device);
+  counted = λ told. omega (arith, ap (λ (d : Device). d.cuts) device);
   unplanned = λ told plain none. ap (λ (d : Device). d.planned) device ∙ none;
 }
 
@@ -126,6 +176,38 @@ lost_planned powered bytes asks (Loss plain finished) old new over off told none
     let planned : over.between.planned ≡ old.planned - over.wrote.writes = ap (λ (d : Device). d.planned) over.wrote.device in
     absurd (omega (arith, struck.0, planned, none))
 
+-- a cut behind so many commits
+loss_spends : (finished before now writes between : ℕ) → between ≡ before - writes → 1 ≤ between → between ≤ MOST_WRITES → LEAST_WRITES * finished ≤ writes → writes ≤ MOST_WRITES * finished → now ≡ 0
+    → Spends before now finished 0 true
+loss_spends finished before now writes between is some few least most none = record {
+  unplanned = λ no_plan. absurd (omega (arith, is, some, no_plan));
+  ahead = λ planned kept. absurd (cc);
+  strikes = λ planned struck. (none, omega (arith, is, some, least), omega (arith, is, some, few, most));
+}
+
+-- the writes that a command takes from a plan
+handled_spends : (powered : Bool) (bytes : List ℕ) (asks : List Ask) (came : Came) (old new : Device) → CameOver came old new → (is_silence came ≡ true → powered ≡ false) → (is_silence came ≡ false → powered ≡ true) → IsTrue old.told
+    → SpendsBy powered old.planned new.planned (Did (moment_of bytes asks came))
+handled_spends powered bytes asks Silence old new over off alive told =
+    rw (off refl) (stays old.planned new.planned (ap (λ (d : Device). d.planned) over))
+handled_spends powered bytes asks (Answer plain finished rule reply sent) old new over off alive told =
+    let planned : new.planned ≡ old.planned - over.writes = ap (λ (d : Device). d.planned) over.device in
+    let beyond : 0 < old.planned → over.writes < old.planned = λ some. not_within old.planned over.writes some (over.spared told) in
+    record {
+      unplanned = λ none. (omega (arith, planned, none), refl);
+      ahead = λ some kept. let later = beyond some in (omega (arith, planned, later), omega (arith, planned, later, over.least), omega (arith, planned, later, over.most));
+      strikes = λ some struck. absurd (cc);
+    }
+handled_spends powered bytes asks (Loss plain finished) old new over off alive told =
+    let wrote = over.wrote in
+    let planned : over.between.planned ≡ old.planned - wrote.writes = ap (λ (d : Device). d.planned) wrote.device in
+    let struck = over.struck (ap (λ (d : Device). d.told) wrote.device ∙ told) in
+    rw (alive refl) (loss_spends finished old.planned new.planned wrote.writes over.between.planned planned struck.0 struck.1 wrote.least wrote.most over.cut.planned)
+
+silent_on : (b : Bool) (running : Option RunningView) → b ≡ is_none running → b ≡ false → is_some running ≡ true
+silent_on b None is s = absurd (cc)
+silent_on b (Some running) is s = refl
+
 silent_off : (b : Bool) (running : Option RunningView) → b ≡ is_none running → b ≡ true → is_some running ≡ false
 silent_off b None is s = refl
 silent_off b (Some running) is s = absurd (cc)
@@ -141,6 +223,7 @@ line_handled before after old new bytes came log told m handles same so is =
       carried = came_input bytes handles.asks came;
       cause = lost_rose (is_some old.chip.running) bytes handles.asks came old.device new.device handles.device off;
       unplanned = lost_planned (is_some old.chip.running) bytes handles.asks came old.device new.device handles.device off;
+      spends = handled_spends (is_some old.chip.running) bytes handles.asks came old.device new.device handles.device off (λ s. silent_on (is_silence came) old.chip.running handles.silent s);
     } in
     subst (λ (x : PlainMoment). IsLine old new log after.log (ApduLine bytes) (Did x)) (sym (is ∙ ap (λ (a : List Ask). moment_of bytes a came) so)) line
 
@@ -153,6 +236,7 @@ keeps_handled before after old new bytes came handles = by came handles.device h
     layout = handles.layout;
     told = ap (λ (d : Device). d.told) over;
     later = omega (arith, ap (λ (d : Device). d.cuts) over);
+    counted = λ told. omega (arith, ap (λ (d : Device). d.cuts) over);
     unplanned = λ told plain none. ap (λ (d : Device). d.planned) over ∙ none;
   }
   by (Answer plain finished rule reply sent) over silent running = record {
@@ -161,6 +245,7 @@ keeps_handled before after old new bytes came handles = by came handles.device h
     layout = handles.layout;
     told = ap (λ (d : Device). d.told) over.device;
     later = omega (arith, ap (λ (d : Device). d.cuts) over.device);
+    counted = λ told. omega (arith, ap (λ (d : Device). d.cuts) over.device);
     unplanned = λ told plain none. ap (λ (d : Device). d.planned) over.device ∙ rw none (omega arith);
   }
   by (Loss plain finished) over silent running = record {
@@ -169,6 +254,7 @@ keeps_handled before after old new bytes came handles = by came handles.device h
     layout = handles.layout;
     told = over.cut.told ∙ ap (λ (d : Device). d.told) over.wrote.device;
     later = omega (arith, over.cut.never_falls, ap (λ (d : Device). d.cuts) over.wrote.device);
+    counted = λ told. omega (arith, over.cut.by_one (ap (λ (d : Device). d.told) over.wrote.device ∙ told), ap (λ (d : Device). d.cuts) over.wrote.device);
     unplanned = λ told plain none. over.cut.planned;
   }
 
@@ -211,7 +297,7 @@ pub scene_planned : (chip : ChipView) (old new : Device) (cells cells_now : List
 scene_planned chip old new cells cells_now write is same = ap (λ (d : Device). scene chip d cells_now) is ∙ ap (λ (c : List ℕ). scene chip (planned_by write old) c) same
 
 pub line_planned : (old new : Scene) (write : ℕ) (tear : Tear) (log : List Ask) → new ≡ record old { device = planned_by write old.device } → IsLine old new log log (CutLine write tear) (Planned write tear)
-line_planned old new write tear log is = record { step = is; logged = sym (append-nil log); carried = refl; cause = λ lost. absurd (cc); unplanned = λ told none. refl }
+line_planned old new write tear log is = record { step = is; logged = sym (append-nil log); carried = refl; cause = λ lost. absurd (cc); unplanned = λ told none. refl; spends = λ told. tt }
 
 pub keeps_planned : (chip : ChipView) (old new : Device) (cells cells_now : List ℕ) (write : ℕ) (tear : Tear) → new ≡ planned_by write old → cells_now ≡ cells → IsSound (scene chip old cells) → Keeps (scene chip old cells) (scene chip new cells_now) (CutLine write tear)
 keeps_planned chip old new cells cells_now write tear is same sound =
@@ -222,6 +308,7 @@ keeps_planned chip old new cells cells_now write tear is same sound =
       layout = ap (λ (c : List ℕ). slice_index c 0) same;
       told = ap (λ (d : Device). d.told) is ∙ planned_told write old;
       later = omega (arith, ap (λ (d : Device). d.cuts) is, planned_cuts write old);
+      counted = λ told. omega (arith, ap (λ (d : Device). d.cuts) is, planned_cuts write old);
       unplanned = λ told plain none. absurd (cc);
     }
 
@@ -269,6 +356,58 @@ pub holds_some : (p : Option PlainEffect) (full : FullRecord) (holds : Option Fu
 holds_some None full holds is = rw is refl
 holds_some (Some effect) full holds (inl is) = rw is refl
 holds_some (Some effect) full holds (inr is) = rw is refl
+
+-- ---- where planned cuts strike
+
+-- a moment more in a stretch
+ahead_in : (free struck : Bool) (m : PlainMoment) (s : Stretch) (planned planned_now : ℕ) → (s.cuts == 0) ≡ free → IsAheadIn s planned → Spends planned planned_now m.finished (once (is_power_on m.input)) struck
+    → IsAheadIn (longer struck m s) planned_now
+ahead_in true false m s planned now is ahead spends =
+    let none : s.cuts ≡ 0 = eqb-true s.cuts 0 is in
+    let waits = ahead.waits none in
+    let later = spends.ahead waits.0 refl in
+    rw is (record {
+      is = record { once = omega arith; not_before = omega (arith, waits.1, later.0, later.1); not_after = λ cut. absurd (omega (arith, cut)) };
+      waits = λ still. (later.0, omega (arith, waits.1, later.1), omega (arith, waits.2, later.2));
+      struck = λ cut. absurd (omega (arith, cut));
+    })
+ahead_in true true m s planned now is ahead spends =
+    let none : s.cuts ≡ 0 = eqb-true s.cuts 0 is in
+    let waits = ahead.waits none in
+    let cut = spends.strikes waits.0 refl in
+    rw is (record {
+      is = record { once = omega arith; not_before = omega (arith, waits.1, cut.1); not_after = λ some. omega (arith, waits.2, cut.2) };
+      waits = λ still. absurd (omega (arith, still));
+      struck = λ some. cut.0;
+    })
+ahead_in false struck m s planned now is ahead spends =
+    let some : 0 < s.cuts = grind (arith, nat_tests) in
+    let gone = spends.unplanned (ahead.struck some) in
+    rw (is, gone.1) (record {
+      is = record { once = omega (arith, ahead.is.once); not_before = ahead.is.not_before; not_after = λ cut. ahead.is.not_after (omega (arith, some)) };
+      waits = λ still. absurd (omega (arith, some, still));
+      struck = λ cut. gone.0;
+    })
+
+ahead_more : (o : Option Stretch) (struck : Bool) (m : PlainMoment) (planned planned_now : ℕ) → IsAhead o planned → Spends planned planned_now m.finished (once (is_power_on m.input)) struck
+    → IsInStretch (option_map (longer struck m) o) struck × IsAhead (option_map (longer struck m) o) planned_now
+ahead_more None struck m planned now ahead spends = let gone = spends.unplanned ahead in (gone.1, gone.0)
+ahead_more (Some s) struck m planned now ahead spends =
+    let later = ahead_in (s.cuts == 0) struck m s planned now refl ahead spends in
+    (later.is, later)
+
+-- a plan begins a stretch
+ahead_planned : (none : Bool) (write : ℕ) (before : Option Stretch) (device : Device) → (write == 0) ≡ none → device.told ≡ true → device.cuts + 1 < 2 ^ 64 → IsAhead before device.planned
+    → IsAhead (if write == 0 then before else Some (record { write = write; commits = 0; power_ons = 0; cuts = 0 })) (planned_by write device).planned
+ahead_planned true write before device is told few ahead = rw is ahead
+ahead_planned false write before device is told few ahead =
+    let some : 0 < write = grind (arith, nat_tests) in
+    let counts : nat_lt device.cuts (2 ^ 64 - 1) ≡ true = grind (arith, nat_tests) in
+    rw (is, told, counts) (record {
+      is = record { once = omega arith; not_before = omega (arith, some); not_after = λ cut. absurd (omega (arith, cut)) };
+      waits = λ still. (some, omega arith, omega arith);
+      struck = λ cut. absurd (omega (arith, cut));
+    })
 
 -- ---- runs
 
@@ -338,6 +477,12 @@ more (Did m) opening start old new log_0 log log_now lines line first before now
           let told_now : IsTrue old.device.told = run.same_told ∙ told in
           ((earlier.0, sym lost_is ∙ made.unplanned told_now earlier.1), keeps.unplanned told_now plain earlier.1);
       later = omega (arith, run.later, keeps.later);
+      counted = λ told. omega (arith, run.counted told, keeps.counted (run.same_told ∙ told));
+      strikes = λ told none few.
+          let earlier = run.strikes told none (omega (arith, few)) in
+          let spends = subst (λ (b : Bool). Spends old.device.planned new.device.planned m.finished (once (is_power_on m.input)) b) lost_is (made.spends (run.same_told ∙ told)) in
+          let later = ahead_more (stretch run.happened) (lost m (journal run.happened)) m old.device.planned new.device.planned earlier.1 spends in
+          ((later.0, earlier.0), later.1);
       same_told = keeps.told ∙ run.same_told;
       dark = λ off. keeps.dark (run.dark off);
       carried = rw (run.carried, made.carried) refl;
@@ -351,6 +496,11 @@ more (Planned write tear) opening start old new log_0 log log_now lines line fir
   steady = λ still. run.steady (rose_first start.device.cuts old.device.cuts new.device.cuts run.later keeps.later still);
   unplanned = λ told none unplanned. absurd (cc);
   later = omega (arith, run.later, keeps.later);
+  counted = λ told. omega (arith, run.counted told, keeps.counted (run.same_told ∙ told));
+  strikes = λ told none few.
+      let earlier = run.strikes told none (omega (arith, few)) in
+      let cuts = run.counted told in
+      (earlier.0, rw made.step (ahead_planned (write == 0) write (stretch run.happened) old.device refl (run.same_told ∙ told) (omega (arith, few, cuts)) earlier.1));
   same_told = keeps.told ∙ run.same_told;
   dark = λ off. keeps.dark (run.dark off);
   carried = rw (run.carried, made.carried) refl;
@@ -373,6 +523,7 @@ ran_lines opening chip chip_now old new lines before now run told layout = recor
   legal = run.legal;
   steady = run.steady;
   unplanned = λ is none unplanned. (run.unplanned is none unplanned).0;
+  strikes = λ told none few. (run.strikes told none few).0;
   only = λ source answered steady. only_journal source opening (journal run.happened) run.legal steady answered;
   logged = run.logged;
   told = told;
@@ -399,7 +550,7 @@ broke_off opening chip chip_was chip_now old was new lines line rest whole parts
 broke_off opening chip chip_was chip_now old was new lines line rest whole parts tells told layout run (inr part) keeps =
     let at = more (Did part.moment) opening (scene chip old.device old.cells) (scene chip_was was.device was.cells) (scene chip_now new.device new.cells) old.copro.log was.copro.log new.copro.log lines line
     (record old.sink { tells = false }) (record was.sink { tells = false }) (record new.sink { tells = false }) refl
-    (record { happened = run.happened; fits = run.fits; legal = run.legal; steady = run.steady; unplanned = run.unplanned; later = run.later; same_told = run.same_told; dark = run.dark; carried = run.carried; logged = run.logged; written = λ never. absurd (cc) })
+    (record { happened = run.happened; fits = run.fits; legal = run.legal; steady = run.steady; unplanned = run.unplanned; later = run.later; counted = run.counted; strikes = run.strikes; same_told = run.same_told; dark = run.dark; carried = run.carried; logged = run.logged; written = λ never. absurd (cc) })
     part.made keeps (λ never. absurd (cc)) in
     record {
       happened = at.happened;

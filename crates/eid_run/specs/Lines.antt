@@ -1,6 +1,6 @@
 -- Inside: cited by private contracts alone.
 -- What one line of a script does, and what all lines so far did.
-use Rattle.std.specs.Prelude.{◌≡◌, ◌⊎◌, ℕ, ◌≤◌, ◌&&◌, Bool, true, false, IsTrue, List, [], ◌++◌, ◌==◌, is_some, is_none, slice_index, if◌then◌else◌}
+use Rattle.std.specs.Prelude.{◌≡◌, ◌⊎◌, ℕ, ◌+◌, ◌*◌, ◌^◌, ◌<◌, ◌≤◌, ◌&&◌, Bool, true, false, IsTrue, List, [], ◌++◌, ◌==◌, Option, Some, None, length, is_some, is_none, slice_index, if◌then◌else◌}
 use Rattle.eid_base.specs.Faults.{Rose}
 use Rattle.eid_base.specs.Seen.{SinkSeen, Grew, GrewByPart}
 use Rattle.eid_cells.specs.Device.{Device, planned_at}
@@ -11,7 +11,9 @@ use Rattle.eid_model.specs.Legal.{AreLegal}
 use Rattle.eid_model.specs.Trace.{text, trace}
 use Rattle.eid_chip.specs.Fits.{Scene, Fits, Follows, IsSound, is_off}
 use Rattle.eid_script.specs.Scripts.{ScriptLine, OnLine, OffLine, ApduLine, CutLine}
-use Rattle.eid_run.specs.Runs.{LineEffect, Did, Planned, line_of, lines_of, journal, has_plan}
+use Rattle.eid_chip.specs.Commits.{LEAST_WRITES, MOST_WRITES, MOST_MOUNTING}
+use Rattle.eid_store.specs.Cost.{once}
+use Rattle.eid_run.specs.Runs.{LineEffect, Did, Planned, line_of, lines_of, journal, has_plan, Stretch, stretch, is_power_on, IsAsPlanned, CutsAsPlanned}
 
 abbrev pub is_cut_line : ScriptLine → Bool
 is_cut_line OnLine = false
@@ -37,6 +39,20 @@ was_cut powered (Planned write tear) = false
 abbrev pub planned_by : ℕ → Device → Device
 planned_by write device = if write == 0 then device else planned_at write device
 
+-- From one number of writes ahead of a planned cut to another, where 0 is no plan: by so many commits that finished and
+-- so many power-ons, and the cut struck or not.
+pub record Spends (before now commits power_ons : ℕ) (struck : Bool) : Type 0 where
+  pub unplanned : before ≡ 0 → (now ≡ 0) × (struck ≡ false)
+  pub ahead : 0 < before → struck ≡ false
+      → (0 < now) × (now + LEAST_WRITES * commits ≤ before) × (before ≤ now + MOST_WRITES * commits + MOST_MOUNTING * power_ons)
+  pub strikes : 0 < before → struck ≡ true
+      → (now ≡ 0) × (LEAST_WRITES * commits < before) × (before ≤ MOST_WRITES * (commits + 1) + MOST_MOUNTING * power_ons)
+
+-- what a line's moment spends, where the chip was on before it, or off
+abbrev pub SpendsBy : Bool → ℕ → ℕ → LineEffect → Type 0
+SpendsBy powered before now (Did m) = Spends before now m.finished (once (is_power_on m.input)) (was_cut powered (Did m))
+SpendsBy powered before now (Planned write tear) = Unit {0}
+
 -- from one scene to another by what happened; a plan changes the device's plan alone
 abbrev pub IsStep : Scene → Scene → LineEffect → Type 0
 IsStep old new (Did m) = Follows old new m
@@ -50,6 +66,7 @@ pub record IsLine (old new : Scene) (log log_now : List Ask) (line : ScriptLine)
   pub carried : line_of h ≡ line
   pub cause : was_cut (is_some old.chip.running) h ≡ true → Rose old.device.cuts new.device.cuts
   pub unplanned : IsTrue old.device.told → old.device.planned ≡ 0 → was_cut (is_some old.chip.running) h ≡ false
+  pub spends : IsTrue old.device.told → SpendsBy (is_some old.chip.running) old.device.planned new.device.planned h
 
 -- what every line leaves: where the chip is on its store fits, and where it is off the device has no power, if that was so
 -- before; the cell that names the layout is as before; cuts are counted; without a plan none comes up but by a line
@@ -59,6 +76,7 @@ pub record Keeps (old new : Scene) (line : ScriptLine) : Type 0 where
   pub layout : slice_index new.cells 0 ≡ slice_index old.cells 0
   pub told : new.device.told ≡ old.device.told
   pub later : old.device.cuts ≤ new.device.cuts
+  pub counted : IsTrue old.device.told → new.device.cuts ≤ old.device.cuts + 1
   pub unplanned : IsTrue old.device.told → is_cut_line line ≡ false → old.device.planned ≡ 0 → new.device.planned ≡ 0
 
 -- and its text was written whole
@@ -77,6 +95,17 @@ abbrev pub BrokeOffLine : Scene → Scene → List Ask → List Ask → ScriptLi
 BrokeOffLine old new log log_now line before now =
     ((new ≡ old) × (log_now ≡ log) × (IsTrue before.tells → now.written ≡ before.written)) ⊎ PartOfLine old new log log_now line before now
 
+-- so many writes are ahead of the cut that a stretch plans; none where it struck, and without a stretch
+pub record IsAheadIn (s : Stretch) (planned : ℕ) : Type 0 where
+  pub is : IsAsPlanned s
+  pub waits : s.cuts ≡ 0 → (0 < planned) × (planned + LEAST_WRITES * s.commits ≤ s.write)
+      × (s.write ≤ planned + MOST_WRITES * s.commits + MOST_MOUNTING * s.power_ons)
+  pub struck : 0 < s.cuts → planned ≡ 0
+
+abbrev pub IsAhead : Option Stretch → ℕ → Type 0
+IsAhead None planned = planned ≡ 0
+IsAhead (Some s) planned = IsAheadIn s planned
+
 -- the lines so far were carried out, and the scene fits their journal
 pub record IsRunSoFar (opening : FullRecord) (start now_at : Scene) (log log_now : List Ask) (lines : List ScriptLine) (before now : SinkSeen) : Type 0 where
   pub happened : List LineEffect
@@ -86,6 +115,9 @@ pub record IsRunSoFar (opening : FullRecord) (start now_at : Scene) (log log_now
   pub unplanned : IsTrue start.device.told → start.device.planned ≡ 0 → has_plan happened ≡ false
       → AreSteady (journal happened) × (now_at.device.planned ≡ 0)
   pub later : start.device.cuts ≤ now_at.device.cuts
+  pub counted : IsTrue start.device.told → now_at.device.cuts ≤ start.device.cuts + length happened
+  pub strikes : IsTrue start.device.told → start.device.planned ≡ 0 → start.device.cuts + length happened < 2 ^ 64
+      → CutsAsPlanned happened × IsAhead (stretch happened) now_at.device.planned
   pub same_told : now_at.device.told ≡ start.device.told
   pub dark : start.device.has_power ≡ false → is_off now_at.chip ≡ true → now_at.device.has_power ≡ false
   pub carried : lines_of happened ≡ lines

@@ -1,17 +1,19 @@
 -- What a run of a script does: the moments that its lines make, and what is written of them.
-use Rattle.std.specs.Prelude.{◌≡◌, ℕ, ◌||◌, Bool, true, false, IsTrue, List, [], ◌∷◌, ◌++◌, slice_index}
+use Rattle.std.specs.Prelude.{◌≡◌, ℕ, ◌+◌, ◌*◌, ◌^◌, ◌<◌, ◌≤◌, ◌==◌, ◌||◌, Bool, true, false, IsTrue, List, [], ◌∷◌, ◌++◌, length, slice_index, Option, Some, None, option_map, if◌then◌else◌}
 use Rattle.eid_base.specs.Faults.{Rose}
 use Rattle.eid_base.specs.Seen.{SinkSeen, IsFront, Grew}
 use Rattle.eid_cells.specs.declared.tear.Tear.{Tear}
 use Rattle.eid_cells.specs.Device.{Device}
 use Rattle.eid_record.specs.Plain.{FullRecord}
+use Rattle.eid_store.specs.Cost.{once}
 use Rattle.eid_store.specs.Stands.{stands}
 use Rattle.eid_copro.specs.Seen.{CoproSeen}
 use Rattle.eid_copro.specs.Told.{Source, AnswersFrom}
-use Rattle.eid_model.specs.Moments.{Event, PoweredOn, PoweredOff, Received, PlainMoment, on, asked, AreSteady}
+use Rattle.eid_model.specs.Moments.{Event, PoweredOn, PoweredOff, Received, PlainMoment, on, asked, lost, AreSteady}
 use Rattle.eid_model.specs.Legal.{AreLegal, IsOnlyJournal}
 use Rattle.eid_model.specs.Ledger.{kept, pending, MayHold}
 use Rattle.eid_model.specs.Trace.{text, trace}
+use Rattle.eid_chip.specs.Commits.{LEAST_WRITES, MOST_WRITES, MOST_MOUNTING}
 use Rattle.eid_script.specs.Scripts.{ScriptLine, OnLine, OffLine, ApduLine, CutLine}
 
 -- What a line made: a moment, or the plan of a cut.
@@ -49,6 +51,52 @@ abbrev pub has_plan : List LineEffect → Bool
 has_plan [] = false
 has_plan (h ∷ before) = is_plan h || has_plan before
 
+-- ---- where planned cuts strike
+
+-- The stretch of a `cut` line, up to the next one: the write that the line names, the commits that finished and the
+-- power-ons up to and with the moment in which the power was cut, and how often it was cut.
+pub record Stretch : Type 0 where
+  pub write : ℕ
+  pub commits : ℕ
+  pub power_ons : ℕ
+  pub cuts : ℕ
+
+abbrev pub is_power_on : Event → Bool
+is_power_on (PoweredOn found) = true
+is_power_on PoweredOff = false
+is_power_on (Received bytes) = false
+
+-- one moment more, in which the power was cut or not; behind a cut only further cuts count
+abbrev pub longer : (cut : Bool) → PlainMoment → Stretch → Stretch
+longer cut m s =
+    if s.cuts == 0
+    then record { write = s.write; commits = s.commits + m.finished; power_ons = s.power_ons + once (is_power_on m.input); cuts = once cut }
+    else record s { cuts = s.cuts + once cut }
+
+-- the stretch of the last `cut` line, if there was one; a write of the number 0 is none, and plans nothing
+abbrev pub stretch : List LineEffect → Option Stretch
+stretch [] = None
+stretch (Did m ∷ before) = option_map (longer (lost m (journal before)) m) (stretch before)
+stretch (Planned write tear ∷ before) =
+    if write == 0 then stretch before else Some (record { write = write; commits = 0; power_ons = 0; cuts = 0 })
+
+-- The power was cut at most once, and there: a commit has 5 to 384 writes, a power-on at most 40.
+pub record IsAsPlanned (s : Stretch) : Type 0 where
+  pub once : s.cuts ≤ 1
+  pub not_before : LEAST_WRITES * s.commits < s.write
+  pub not_after : 1 ≤ s.cuts → s.write ≤ MOST_WRITES * (s.commits + 1) + MOST_MOUNTING * s.power_ons
+
+-- a moment before the first `cut` line was not cut; any other is of a stretch that is as planned
+abbrev pub IsInStretch : Option Stretch → (cut : Bool) → Type 0
+IsInStretch None cut = cut ≡ false
+IsInStretch (Some s) cut = IsAsPlanned s
+
+-- and so at each moment of the run
+abbrev pub CutsAsPlanned : List LineEffect → Type 0
+CutsAsPlanned [] = Unit {0}
+CutsAsPlanned (Did m ∷ before) = IsInStretch (stretch (Did m ∷ before)) (lost m (journal before)) × CutsAsPlanned before
+CutsAsPlanned (Planned write tear ∷ before) = CutsAsPlanned before
+
 -- a front of the trace, in which all moments but the newest are whole
 abbrev pub IsFrontOfTrace : List ℕ → List PlainMoment → Type 0
 IsFrontOfTrace written [] = written ≡ []
@@ -65,12 +113,14 @@ abbrev pub outside : Device → List ℕ → CoproSeen → SinkSeen → Outside
 outside device cells copro sink = record { device = device; cells = cells; copro = copro; sink = sink }
 
 -- What a run of lines did, whose moments are this journal: it is legal; no power was cut but where the device's count of
--- cuts rose, and none where the device told that no cut was planned and no line planned one; the coprocessor's log grew by
--- the questions of the moments; the cells hold what the journal says; and the device has power exactly where the chip has.
+-- cuts rose, and none where the device told that no cut was planned and no line planned one; where it tells its plans, and
+-- can count a cut more for each line, cuts come as they were planned; the coprocessor's log grew by the questions of the
+-- moments; the cells hold what the journal says; and the device has power exactly where the chip has.
 pub record RanLines (opening : FullRecord) (happened : List LineEffect) (old new : Outside) : Type 0 where
   pub legal : AreLegal opening (journal happened)
   pub steady : (Rose old.device.cuts new.device.cuts → ⊥) → AreSteady (journal happened)
   pub unplanned : IsTrue old.device.told → old.device.planned ≡ 0 → has_plan happened ≡ false → AreSteady (journal happened)
+  pub strikes : IsTrue old.device.told → old.device.planned ≡ 0 → old.device.cuts + length happened < 2 ^ 64 → CutsAsPlanned happened
   pub only : (source : Source) → AnswersFrom source (asked (journal happened)) → AreSteady (journal happened)
       → IsOnlyJournal source opening (journal happened)
   pub logged : new.copro.log ≡ old.copro.log ++ asked (journal happened)
