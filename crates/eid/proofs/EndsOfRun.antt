@@ -1,6 +1,6 @@
 -- What the run of a script ended in, and what it did: for the commands that read an image and a script,
 -- and then perhaps more.
-use Rattle.std.proofs.Common.{◌≡◌, ◌≢◌, ℕ, ◌≤◌, IsTrue, List, [], ◌++◌, length, Option, Some, Ok, Err, refl, sym, ap, ◌∙◌, subst, arith, inl, inr}
+use Rattle.std.proofs.Common.{◌≡◌, ◌≢◌, ℕ, ◌+◌, ◌^◌, ◌<◌, ◌≤◌, IsTrue, List, [], ◌∷◌, ◌++◌, length, length-append, Option, Some, Ok, Err, refl, sym, ap, ◌∙◌, subst, arith, inl, inr}
 use Rattle.std.specs.Prelude.{IsSome}
 use Rattle.eid_base.specs.declared.codes.RunError.{RunError}
 use Rattle.eid_base.specs.declared.codes.RunError.TheVariants as run
@@ -20,7 +20,7 @@ use Rattle.eid_cells.specs.Device.{Device}
 use Rattle.eid_model.specs.Moments.{PlainMoment, asked}
 use Rattle.eid_model.specs.Ledger.{kept, pending, MayHold}
 use Rattle.eid_script.specs.Scripts.{ScriptLine}
-use Rattle.eid_run.specs.Runs.{journal, outside, DidLines, DidSomeLines}
+use Rattle.eid_run.specs.Runs.{LineEffect, line_of, lines_of, journal, outside, DidLines, DidSomeLines}
 use Rattle.eid.specs.declared.exit.Exit.{Exit}
 use Rattle.eid.specs.declared.exit.Exit.TheVariants.{Done, Usage, FileFault, NoMemory, BadImage, BadScript, BadConfig, SinkFault, BadAnswers}
 use Rattle.eid.specs.Commands.{Command, Run, Replay}
@@ -114,23 +114,31 @@ script_source answers told is = λ log keeps. rw is at keeps
 pub answers_from : (source : Source) (told told_now : Told) (log : List Ask) (moments : List PlainMoment) → HasSource told source → told_now ≡ told → KeepsTo told_now log → log ≡ asked moments → AnswersFrom source (asked moments)
 answers_from source told told_now log moments has same keeps logged = has (asked moments) (rw (same, logged) at keeps)
 
+-- each line made one thing
+lines_long : (happened : List LineEffect) → length (lines_of happened) ≡ length happened
+lines_long [] = refl
+lines_long (h ∷ before) =
+    let size : length (lines_of before ++ line_of h ∷ []) ≡ length (lines_of before) + 1 = length-append (lines_of before) (line_of h ∷ []) in
+    omega (arith, size, lines_long before)
+
 -- the script ran to its end
-pub ran_whole : (source : Source) (s : Setup) (copro copro_now : CoproSeen) (device : Device) (new_cells : List ℕ) (before now : SinkSeen) → HasSource copro.told source → copro.log ≡ [] → KeepsTo copro_now.told copro_now.log
+pub ran_whole : (source : Source) (s : Setup) (copro copro_now : CoproSeen) (device : Device) (new_cells : List ℕ) (before now : SinkSeen) → HasSource copro.told source → copro.log ≡ [] → KeepsTo copro_now.told copro_now.log → length s.lines < 2 ^ 64
     → DidLines s.opening s.lines (outside resting s.cells copro before) (outside device new_cells copro_now now) → now.tells ≡ before.tells → RanWhole source s new_cells before now
-ran_whole source s copro copro_now device new_cells before now has unasked keeps did tells = record {
+ran_whole source s copro copro_now device new_cells before now has unasked keeps few did tells = record {
   copro = copro;
   unasked = unasked;
   copro_now = copro_now;
   device = device;
   did = did;
+  strikes = did.ran.strikes refl refl (omega (arith, few, lines_long did.happened, ap (λ (l : List ScriptLine). length l) did.carried));
   told = answers_from source copro.told copro_now.told copro_now.log (journal did.happened) has did.ran.told keeps (did.ran.logged ∙ ap (λ (l : List Ask). l ++ asked (journal did.happened)) unasked);
   tells = tells;
 }
 
 -- the run broke off
-pub broke_off : (image : List ℕ) (source : Source) (s : Setup) (folder : FolderSeen) (copro copro_now : CoproSeen) (device : Device) (cells : List ℕ) (before now : SinkSeen) (error : RunError) → HasSource copro.told source → copro.log ≡ [] → KeepsTo copro_now.told copro_now.log
+pub broke_off : (image : List ℕ) (source : Source) (s : Setup) (folder : FolderSeen) (copro copro_now : CoproSeen) (device : Device) (cells : List ℕ) (before now : SinkSeen) (error : RunError) → HasSource copro.told source → copro.log ≡ [] → KeepsTo copro_now.told copro_now.log → length s.lines < 2 ^ 64
     → DidSomeLines s.opening s.lines (outside resting s.cells copro before) (outside device cells copro_now now) → now.tells ≡ before.tells → (error ≡ run.SinkFault → Rose before.faults now.faults) → IsEndOfRun image source s folder folder before now (exit_broken error)
-broke_off image source s folder copro copro_now device cells before now error has unasked keeps did tells rose = at error rose
+broke_off image source s folder copro copro_now device cells before now error has unasked keeps few did tells rose = at error rose
   where
     end : RunBrokeOff source s folder folder before now
     end = record {
@@ -140,6 +148,7 @@ broke_off image source s folder copro copro_now device cells before now error ha
       device = device;
       cells = cells;
       did = did;
+      strikes = did.ran.strikes refl refl (omega (arith, few, lines_long did.happened, ap (λ (l : List ScriptLine). length l) did.carried.1, length-append (lines_of did.happened) did.carried.0));
       told = answers_from source copro.told copro_now.told copro_now.log (journal did.happened) has did.ran.told keeps (did.ran.logged ∙ ap (λ (l : List Ask). l ++ asked (journal did.happened)) unasked);
       tells = tells;
       files = record { tells = refl; files = λ told name. refl };
@@ -195,6 +204,7 @@ broke_off_from source s old middle new before now same b = record {
   device = b.device;
   cells = b.cells;
   did = b.did;
+  strikes = b.strikes;
   told = b.told;
   tells = b.tells;
   files = same_twice old middle new same b.files;

@@ -12,7 +12,7 @@ use Rattle.eid_model.specs.Moments.{asked, AreSteady}
 use Rattle.eid_model.specs.Legal.{IsOnlyJournal}
 use Rattle.eid_model.specs.Ledger.{kept, pending, MayHold}
 use Rattle.eid_script.specs.Scripts.{ScriptLine}
-use Rattle.eid_run.specs.Runs.{journal, has_plan, outside, DidLines, DidSomeLines}
+use Rattle.eid_run.specs.Runs.{journal, has_plan, outside, CutsAsPlanned, DidLines, DidSomeLines}
 use Rattle.eid.specs.Images.{record_of}
 use Rattle.eid.specs.Inputs.{image_in, script_in, answers_in}
 
@@ -34,13 +34,14 @@ abbrev pub resting : Device
 resting = record { has_power = false; told = true; planned = 0; cuts = 0 }
 
 -- The script ran to its end over such a device with the image's cells, and the answers that the coprocessor gave, which
--- had been asked nothing, are those of the source.
+-- had been asked nothing, are those of the source. Cuts of the power come as the `cut` lines plan them.
 pub record RanWhole (source : Source) (s : Setup) (new_cells : List ℕ) (before now : SinkSeen) : Type 0 where
   pub copro : CoproSeen
   pub unasked : copro.log ≡ []
   pub copro_now : CoproSeen
   pub device : Device
   pub did : DidLines s.opening s.lines (outside resting s.cells copro before) (outside device new_cells copro_now now)
+  pub strikes : CutsAsPlanned did.happened
   pub told : AnswersFrom source (asked (journal did.happened))
   pub tells : now.tells ≡ before.tells
 
@@ -65,6 +66,7 @@ pub record RunBrokeOff (source : Source) (s : Setup) (old new : FolderSeen) (bef
   pub device : Device
   pub cells : List ℕ
   pub did : DidSomeLines s.opening s.lines (outside resting s.cells copro before) (outside device cells copro_now now)
+  pub strikes : CutsAsPlanned did.happened
   pub told : AnswersFrom source (asked (journal did.happened))
   pub tells : now.tells ≡ before.tells
   pub files : SameFiles old new

@@ -1,5 +1,5 @@
 //! The command `run`, and the run of a script that it shares with `replay`.
-ghost use Rattle.std.specs.Prelude.{◌≡◌, [], Some, IsSome, length, map};
+ghost use Rattle.std.specs.Prelude.{◌≡◌, ◌^◌, ◌<◌, [], Some, IsSome, length, map};
 ghost use Rattle.eid_record.specs.Plain.{FullRecord};
 ghost use Rattle.eid_store.specs.Stands.{stands};
 ghost use Rattle.eid_copro.specs.Told.{Source};
@@ -31,6 +31,7 @@ pub fn run_and_store<C: Coprocessor, F: Folder, K: Sink>(
     requires size { length cells.items ≡ 65536 }
     requires stands { IsSome (stands cells.items) }
     requires log { (C.seen copro.old).log ≡ [] }
+    requires few { length lines.now < 2 ^ 64 }
     ensures ends { (source : Source) (opening : FullRecord) → HasSource (C.seen copro.old).told source → stands cells.items ≡ Some opening
         → IsEndOfRun image.now source (setup opening cells.items (map plain_line lines.now)) (F.seen folder.old) (F.seen folder.new) (K.seen out.old)
         (K.seen out.new) result }

@@ -26,7 +26,7 @@ use Rattle.eid_chip.specs.Fits.{Scene, scene, Fits, Follows, Handles, IsSound, I
 use Rattle.eid_chip.specs.States.{ChipView, RunningView}
 use Rattle.eid_script.specs.declared.script.Line.{Line}
 use Rattle.eid_script.specs.Scripts.{ScriptLine, OnLine, OffLine, ApduLine, CutLine, plain_line}
-use Rattle.eid_run.specs.Runs.{LineEffect, Did, Planned, line_for, journal, is_plan, line_of, IsFrontOfTrace, RanLines, DidSomeLines, Outside, Stretch, stretch, longer, is_power_on, IsAsPlanned, IsInStretch, CutsAsPlanned}
+use Rattle.eid_run.specs.Runs.{LineEffect, Did, Planned, line_for, journal, is_plan, line_of, IsFrontOfTrace, RanLines, DidSomeLines, Outside, Stretch, stretch, longer, is_power_on, IsInStretch}
 use Rattle.eid_run.specs.Lines.{is_cut_line, text_of, was_cut, planned_by, Spends, SpendsBy, IsAhead, IsAheadIn, IsLine, Keeps, DidLine, BrokeOffLine, IsRunSoFar}
 
 -- ---- a power-on
