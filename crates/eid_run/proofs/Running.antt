@@ -1,5 +1,5 @@
 -- What a line made, and runs with one line more.
-use Rattle.std.proofs.Common.{◌≡◌, ◌≢◌, ℕ, ◌+◌, ◌-◌, ◌*◌, ◌^◌, ◌<◌, ◌≤◌, Bool, true, false, ◌==◌, ◌||◌, IsTrue, List, [], ◌∷◌, ◌++◌, length, take, drop, get_or, map, Option, Some, None, Result, Ok, Err, refl, sym, ap, ◌∙◌, subst, append_assoc, append-nil, length-append, arith, inl, inr}
+use Rattle.std.proofs.Common.{min, ◌≡◌, ◌≢◌, ℕ, ◌+◌, ◌-◌, ◌*◌, ◌^◌, ◌<◌, ◌≤◌, Bool, true, false, ◌==◌, ◌||◌, IsTrue, List, [], ◌∷◌, ◌++◌, length, take, drop, get_or, map, Option, Some, None, Result, Ok, Err, refl, sym, ap, ◌∙◌, subst, append_assoc, append-nil, length-append, arith, inl, inr}
 use Rattle.std.specs.Prelude.{IsSome, OnOk, OnErr, is_some, is_none, nat_le, nat_lt, option_map, slice_index, if◌then◌else◌}
 use Rattle.std.proofs.lemmas.Bool.{eqb-true}
 use Rattle.std.proofs.lemmas.Bool.Decides.{nat_tests}
@@ -26,7 +26,7 @@ use Rattle.eid_chip.specs.Fits.{Scene, scene, Fits, Follows, Handles, IsSound, I
 use Rattle.eid_chip.specs.States.{ChipView, RunningView}
 use Rattle.eid_script.specs.declared.script.Line.{Line}
 use Rattle.eid_script.specs.Scripts.{ScriptLine, OnLine, OffLine, ApduLine, CutLine, plain_line}
-use Rattle.eid_run.specs.Runs.{LineEffect, Did, Planned, line_for, journal, is_plan, line_of, IsFrontOfTrace, RanLines, DidSomeLines, Outside, Stretch, stretch, longer, is_power_on, IsInStretch}
+use Rattle.eid_run.specs.Runs.{LineEffect, Did, Planned, line_for, journal, is_plan, line_of, IsFrontOfTrace, RanLines, DidSomeLines, Outside, losses, Stretch, stretch, longer, is_power_on, IsInStretch}
 use Rattle.eid_run.specs.Lines.{is_cut_line, text_of, was_cut, planned_by, Spends, SpendsBy, IsAhead, IsAheadIn, IsLine, Keeps, DidLine, BrokeOffLine, IsRunSoFar}
 
 -- ---- a power-on
@@ -411,6 +411,11 @@ ahead_planned false write before device is told few ahead =
 
 -- ---- runs
 
+-- each cut of the power is counted
+rose_more : (lost : Bool) (start before now losses : ℕ) → before ≤ now → (lost ≡ true → Rose before now) → min (start + losses) (2 ^ 64 - 1) ≤ before → min (start + (once lost + losses)) (2 ^ 64 - 1) ≤ now
+rose_more true start before now losses later rose earlier = let up : Rose before now = rose refl in omega (arith, up, earlier)
+rose_more false start before now losses later rose earlier = omega (arith, later, earlier)
+
 -- a chip that is off does not run
 alive_on : (running : Option RunningView) (power : Bool) → is_some running ≡ power → power ≡ false → is_none running ≡ true
 alive_on None power is off = refl
@@ -478,6 +483,7 @@ more (Did m) opening start old new log_0 log log_now lines line first before now
           ((earlier.0, sym lost_is ∙ made.unplanned told_now earlier.1), keeps.unplanned told_now plain earlier.1);
       later = omega (arith, run.later, keeps.later);
       counted = λ told. omega (arith, run.counted told, keeps.counted (run.same_told ∙ told));
+      rose = rose_more (lost m (journal run.happened)) start.device.cuts old.device.cuts new.device.cuts (losses (journal run.happened)) keeps.later (λ cut. made.cause (lost_is ∙ cut)) run.rose;
       strikes = λ told none few.
           let earlier = run.strikes told none (omega (arith, few)) in
           let spends = subst (λ (b : Bool). Spends old.device.planned new.device.planned m.finished (once (is_power_on m.input)) b) lost_is (made.spends (run.same_told ∙ told)) in
@@ -497,6 +503,7 @@ more (Planned write tear) opening start old new log_0 log log_now lines line fir
   unplanned = λ told none unplanned. absurd (cc);
   later = omega (arith, run.later, keeps.later);
   counted = λ told. omega (arith, run.counted told, keeps.counted (run.same_told ∙ told));
+  rose = omega (arith, run.rose, keeps.later);
   strikes = λ told none few.
       let earlier = run.strikes told none (omega (arith, few)) in
       let cuts = run.counted told in
@@ -521,6 +528,7 @@ pub ran_lines : (opening : FullRecord) (chip chip_now : ChipView) (old new : Out
     → new.copro.told ≡ old.copro.told → slice_index new.cells 0 ≡ slice_index old.cells 0 → RanLines opening run.happened old new
 ran_lines opening chip chip_now old new lines before now run told layout = record {
   legal = run.legal;
+  counted = run.rose;
   steady = run.steady;
   unplanned = λ is none unplanned. (run.unplanned is none unplanned).0;
   strikes = λ told none few. (run.strikes told none few).0;
@@ -550,7 +558,7 @@ broke_off opening chip chip_was chip_now old was new lines line rest whole parts
 broke_off opening chip chip_was chip_now old was new lines line rest whole parts tells told layout run (inr part) keeps =
     let at = more (Did part.moment) opening (scene chip old.device old.cells) (scene chip_was was.device was.cells) (scene chip_now new.device new.cells) old.copro.log was.copro.log new.copro.log lines line
     (record old.sink { tells = false }) (record was.sink { tells = false }) (record new.sink { tells = false }) refl
-    (record { happened = run.happened; fits = run.fits; legal = run.legal; steady = run.steady; unplanned = run.unplanned; later = run.later; counted = run.counted; strikes = run.strikes; same_told = run.same_told; dark = run.dark; carried = run.carried; logged = run.logged; written = λ never. absurd (cc) })
+    (record { happened = run.happened; fits = run.fits; legal = run.legal; steady = run.steady; unplanned = run.unplanned; later = run.later; counted = run.counted; rose = run.rose; strikes = run.strikes; same_told = run.same_told; dark = run.dark; carried = run.carried; logged = run.logged; written = λ never. absurd (cc) })
     part.made keeps (λ never. absurd (cc)) in
     record {
       happened = at.happened;

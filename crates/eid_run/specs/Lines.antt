@@ -1,6 +1,6 @@
 -- Inside: cited by private contracts alone.
 -- What one line of a script does, and what all lines so far did.
-use Rattle.std.specs.Prelude.{◌≡◌, ◌⊎◌, ℕ, ◌+◌, ◌*◌, ◌^◌, ◌<◌, ◌≤◌, ◌&&◌, Bool, true, false, IsTrue, List, [], ◌++◌, ◌==◌, Option, Some, None, length, is_some, is_none, slice_index, if◌then◌else◌}
+use Rattle.std.specs.Prelude.{◌≡◌, ◌⊎◌, ℕ, ◌+◌, ◌-◌, ◌*◌, ◌^◌, ◌<◌, ◌≤◌, min, ◌&&◌, Bool, true, false, IsTrue, List, [], ◌++◌, ◌==◌, Option, Some, None, length, is_some, is_none, slice_index, if◌then◌else◌}
 use Rattle.eid_base.specs.Faults.{Rose}
 use Rattle.eid_base.specs.Seen.{SinkSeen, Grew, GrewByPart}
 use Rattle.eid_cells.specs.Device.{Device, planned_at}
@@ -13,7 +13,7 @@ use Rattle.eid_chip.specs.Fits.{Scene, Fits, Follows, IsSound, is_off}
 use Rattle.eid_script.specs.Scripts.{ScriptLine, OnLine, OffLine, ApduLine, CutLine}
 use Rattle.eid_chip.specs.Commits.{LEAST_WRITES, MOST_WRITES, MOST_MOUNTING}
 use Rattle.eid_store.specs.Cost.{once}
-use Rattle.eid_run.specs.Runs.{LineEffect, Did, Planned, line_of, lines_of, journal, has_plan, Stretch, stretch, is_power_on, IsAsPlanned, CutsAsPlanned}
+use Rattle.eid_run.specs.Runs.{LineEffect, Did, Planned, line_of, lines_of, journal, has_plan, losses, Stretch, stretch, is_power_on, IsAsPlanned, CutsAsPlanned}
 
 abbrev pub is_cut_line : ScriptLine → Bool
 is_cut_line OnLine = false
@@ -116,6 +116,7 @@ pub record IsRunSoFar (opening : FullRecord) (start now_at : Scene) (log log_now
       → AreSteady (journal happened) × (now_at.device.planned ≡ 0)
   pub later : start.device.cuts ≤ now_at.device.cuts
   pub counted : IsTrue start.device.told → now_at.device.cuts ≤ start.device.cuts + length happened
+  pub rose : min (start.device.cuts + losses (journal happened)) (2 ^ 64 - 1) ≤ now_at.device.cuts
   pub strikes : IsTrue start.device.told → start.device.planned ≡ 0 → start.device.cuts + length happened < 2 ^ 64
       → CutsAsPlanned happened × IsAhead (stretch happened) now_at.device.planned
   pub same_told : now_at.device.told ≡ start.device.told

@@ -1,5 +1,5 @@
 -- What a run of a script does: the moments that its lines make, and what is written of them.
-use Rattle.std.specs.Prelude.{◌≡◌, ℕ, ◌+◌, ◌*◌, ◌^◌, ◌<◌, ◌≤◌, ◌==◌, ◌||◌, Bool, true, false, IsTrue, List, [], ◌∷◌, ◌++◌, length, slice_index, Option, Some, None, option_map, if◌then◌else◌}
+use Rattle.std.specs.Prelude.{◌≡◌, ℕ, ◌+◌, ◌-◌, ◌*◌, ◌^◌, min, ◌<◌, ◌≤◌, ◌==◌, ◌||◌, Bool, true, false, IsTrue, List, [], ◌∷◌, ◌++◌, length, slice_index, Option, Some, None, option_map, if◌then◌else◌}
 use Rattle.eid_base.specs.Faults.{Rose}
 use Rattle.eid_base.specs.Seen.{SinkSeen, IsFront, Grew}
 use Rattle.eid_cells.specs.declared.tear.Tear.{Tear}
@@ -50,6 +50,11 @@ is_plan (Planned write tear) = true
 abbrev pub has_plan : List LineEffect → Bool
 has_plan [] = false
 has_plan (h ∷ before) = is_plan h || has_plan before
+
+-- how often the power was cut
+abbrev pub losses : List PlainMoment → ℕ
+losses [] = 0
+losses (m ∷ before) = once (lost m before) + losses before
 
 -- ---- where planned cuts strike
 
@@ -112,12 +117,14 @@ pub record Outside : Type 0 where
 abbrev pub outside : Device → List ℕ → CoproSeen → SinkSeen → Outside
 outside device cells copro sink = record { device = device; cells = cells; copro = copro; sink = sink }
 
--- What a run of lines did, whose moments are this journal: it is legal; no power was cut but where the device's count of
--- cuts rose, and none where the device told that no cut was planned and no line planned one; where it tells its plans, and
--- can count a cut more for each line, cuts come as they were planned; the coprocessor's log grew by the questions of the
--- moments; the cells hold what the journal says; and the device has power exactly where the chip has.
+-- What a run of lines did, whose moments are this journal: it is legal; the device's count of cuts rose by each cut of the
+-- power, as far as it can count, and where it did not rise there was none, nor where the device told that no cut was planned
+-- and no line planned one; where it tells its plans, and can count a cut more for each line, cuts come as they were planned;
+-- the coprocessor's log grew by the questions of the moments; the cells hold what the journal says; and the device has power
+-- exactly where the chip has.
 pub record RanLines (opening : FullRecord) (happened : List LineEffect) (old new : Outside) : Type 0 where
   pub legal : AreLegal opening (journal happened)
+  pub counted : min (old.device.cuts + losses (journal happened)) (2 ^ 64 - 1) ≤ new.device.cuts
   pub steady : (Rose old.device.cuts new.device.cuts → ⊥) → AreSteady (journal happened)
   pub unplanned : IsTrue old.device.told → old.device.planned ≡ 0 → has_plan happened ≡ false → AreSteady (journal happened)
   pub strikes : IsTrue old.device.told → old.device.planned ≡ 0 → old.device.cuts + length happened < 2 ^ 64 → CutsAsPlanned happened

@@ -38,6 +38,13 @@ const STEP_4: &str = "apdu 008600000c7c0a8508b5507fac391ab3fd00\n";
 #[rattlefmt::skip]
 const DONE: &str = " rule 0\n answer 9000\n";
 
+// Of a command that is lost in a cut, and of the selection of a PIN with two tries.
+#[rattlefmt::skip]
+const LOST: &str = " rule 0\n answer none\n";
+
+#[rattlefmt::skip]
+const TWO_LEFT: &str = " rule 0\n answer 63c2\n";
+
 #[rattlefmt::skip]
 const STEP_1_WITH_CAN: &str = " rule 0\n answer 7c128010dd19df18f5215646bdf27199eee4adf39000\n";
 
@@ -266,7 +273,7 @@ struct Session {
 
 /// The sessions, by what they show.
 #[rattlefmt::skip]
-const SESSIONS: [Session; 16] = [
+const SESSIONS: [Session; 20] = [
     Session {
         shows: "after power on SELECT of the application is carried out", config: ACCESS, said: RUN, answers: &[],
         sent: 0, carried_out: 0,
@@ -378,6 +385,34 @@ const SESSIONS: [Session; 16] = [
         more: &[CHOOSE_PUK, STEP_1, STEP_2, STEP_3, STEP_4, UNBLOCK],
         told: &[DONE, STEP_1_WITH_PUK, STEP_2_TOLD, STEP_3_TOLD, STEP_4_TOLD, " rule 30\n answer 6983\n"],
         kept: true,
+    },
+    Session {
+        shows: "a cut in the write that would open the gate loses the right PIN, and spends no try", config: ACCESS, said: RUN, answers: &[],
+        sent: 0, carried_out: 0,
+        more: &[CHOOSE_PIN, STEP_1, STEP_2, STEP_3, "cut 9 half\n", STEP_4, "on\n", CHOOSE_PIN],
+        told: &[DONE, STEP_1_WITH_PIN, STEP_2_TOLD, STEP_3_TOLD, LOST, DONE],
+        kept: false,
+    },
+    Session {
+        shows: "where that write opened it all the same the try is spent", config: ACCESS, said: RUN, answers: &[],
+        sent: 0, carried_out: 0,
+        more: &[CHOOSE_PIN, STEP_1, STEP_2, STEP_3, "cut 9 new\n", STEP_4, "on\n", CHOOSE_PIN],
+        told: &[DONE, STEP_1_WITH_PIN, STEP_2_TOLD, STEP_3_TOLD, LOST, TWO_LEFT],
+        kept: false,
+    },
+    Session {
+        shows: "a cut behind the first commit costs the try, and leaves no session", config: ACCESS, said: RUN, answers: &[],
+        sent: 0, carried_out: 0,
+        more: &[CHOOSE_PIN, STEP_1, STEP_2, STEP_3, "cut 10 fill 00\n", STEP_4, "on\n", "apdu 00b0840000\n", CHOOSE_PIN],
+        told: &[DONE, STEP_1_WITH_PIN, STEP_2_TOLD, STEP_3_TOLD, LOST, " rule 20\n answer 6982\n", TWO_LEFT],
+        kept: false,
+    },
+    Session {
+        shows: "a cut in the last write of the second one is lost, and gives the tries back", config: ACCESS, said: RUN, answers: &[],
+        sent: 0, carried_out: 0,
+        more: &[CHOOSE_PIN, STEP_1, STEP_2, STEP_3, "cut 19 new\n", STEP_4, "on\n", CHOOSE_PIN],
+        told: &[DONE, STEP_1_WITH_PIN, STEP_2_TOLD, STEP_3_TOLD, LOST, DONE],
+        kept: false,
     },
 ];
 

@@ -19,6 +19,7 @@ loop-line-init g c = record {
     unplanned = λ told none unplanned. (tt, none);
     later = omega arith;
     counted = λ told. omega arith;
+    rose = omega arith;
     strikes = λ told none few. (tt, none);
     same_told = refl;
     dark = λ off is. off;
