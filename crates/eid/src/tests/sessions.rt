@@ -3,6 +3,7 @@
 use super::{ACCESS, folder_of, holds, image, joined, push_file, words};
 use crate::program::program;
 use eid_base::MemorySink;
+use eid_record::Password;
 use std::alloc::AllocError;
 use std::test::Fail;
 
@@ -63,12 +64,24 @@ const STEP_3_TOLD: &str = " rule 0\n answer 7c4384410400000000000000000000000000
 #[rattlefmt::skip]
 const STEP_4_TOLD: &str = " rule 0\n answer 7c1986081cd74679bd54f330870d444543564341415430303030319000\n";
 
-/// PACE with the CAN.
-const STEPS: [&str; 5] = [CHOOSE_CAN, STEP_1, STEP_2, STEP_3, STEP_4];
+/// The steps of PACE with a password.
+fn steps_with(password: Password) -> [&'static str; 5] {
+    match password {
+        Password::Can => [CHOOSE_CAN, STEP_1, STEP_2, STEP_3, STEP_4],
+        Password::Pin => [CHOOSE_PIN, STEP_1, STEP_2, STEP_3, STEP_4],
+        Password::Puk => [CHOOSE_PUK, STEP_1, STEP_2, STEP_3, STEP_4],
+    }
+}
 
-/// What its steps come to.
-#[rattlefmt::skip]
-const STEPS_TOLD: [&str; 5] = [DONE, STEP_1_WITH_CAN, STEP_2_TOLD, STEP_3_TOLD, STEP_4_TOLD];
+/// What they come to.
+fn told_with(password: Password) -> [&'static str; 5] {
+    let first = match password {
+        Password::Can => STEP_1_WITH_CAN,
+        Password::Pin => STEP_1_WITH_PIN,
+        Password::Puk => STEP_1_WITH_PUK,
+    };
+    [DONE, first, STEP_2_TOLD, STEP_3_TOLD, STEP_4_TOLD]
+}
 
 // Answers to the questions of the steps, and the second pair with the point that the terminal sends.
 #[rattlefmt::skip]
@@ -173,52 +186,6 @@ const RIGHT_PIN_TOLD: &str = " rule 0
  answer 7c198608922bf6f7c98a1b0f870d444543564341415430303030319000
 ";
 
-// Or PACE with the PIN 111111, the first two commands of another one, PACE with the PUK, and the unblocking.
-#[rattlefmt::skip]
-const WRONG_PIN_AND_PUK: &str = "apdu 0c22c1a41d8711014c30364a3e7d7047c9a53a68699729818e0892663777aa95974600
-apdu 1c860000208711017320bb622c69f22713053481bc71e6ce9701008e083a2f9c7c5c37cf9400
-apdu 1c860000608751013a49e1098970389cf6b71b70ea331308f5b358b601d3d585590d0c17fc8782fa6c6ceafc47085c887bd15d84378868a266b31e6371320ab8728bf7416fa81abecaf6326a5d16442517e549bd3d40b20b9701008e08f758d8a760fafd3400
-apdu 1c8600006087510170ec26ed8bbd562cd971d906e00dd37de8299ef5eb828be8d3866c39cd9c7708faa2416a3e7132d160393d9c05908e73f27b940b2d795eebb6b052ee9f8c035ff01b0eefb0d52f65f05ec30473828b2f9701008e08aaac9946a046553400
-apdu 0c86000020871101ebb17561bba2ca4acc7c547fe5bccf9e9701008e082637adcc240f3c8300
-apdu 0c22c1a41d87110153a3e946c806112d69de4f200baffebd8e087a6f56c6e38155cd00
-apdu 1c8600002087110153cf32c006ea834d20de0c37bb02b9499701008e0859cfe3b4380e5be900
-apdu 0c22c1a41d87110170219bcd9c089487d89a520a5071abc48e08159d6b4241c2b91e00
-apdu 1c86000020871101dae64bd78681973fd41287edc4ef5ecb9701008e0825ff1d04745619b600
-apdu 1c86000060875101fe4d98afdae2e9dbb7393dbc92438f9a515cf2176331155b33271c8ec73bd7b747317cc6ac5ac67f25a4330b26329b100045354d1e9b66ea57666074e981e20e7feb632f96f448c7e6c937977dfce9929701008e0819b894e808cce15600
-apdu 1c8600006087510100ea947da3a5ec3b768bb02d9847b221b8e3c91e9deb5b8e6103a9842cc13c8d9aaa24e9c31d9331e16ac7cd2f579b471c70e8437266a771aff0a392281c87cbe661bb5c791bce7e8fa3155014b5dd3c9701008e085e7d8bddb9546bcb00
-apdu 0c860000208711019e2e2c559e52664ac1be832da5ce93109701008e0826e60a3c39b79e1900
-apdu 0c2c03030a8e08dfe95e71a7aed3da00
-";
-
-#[rattlefmt::skip]
-const WRONG_PIN_AND_PUK_TOLD: &str = " rule 0
- answer 63c1
- rule 0
- answer 7c1280101379dba2f484f17279f1b7bb134942ca9000
- rule 0
- answer 7c438241040000000000000000000000000000000000000000000000004a0a85ef2463862700000000000000000000000000000000000000000000000000000000000000009000
- rule 0
- answer 7c438441040000000000000000000000000000000000000000000000004858cef658efb0c600000000000000000000000000000000000000000000000000000000000000009000
- rule 55
- answer 63c0
- rule 0
- answer 63c0
- rule 16
- answer 6983
- rule 0
- answer 9000
- rule 0
- answer 7c12801080c038e6bd7228b28197736deea60f769000
- rule 0
- answer 7c4382410400000000000000000000000000000000000000000000000088fcf3be4d65e63b00000000000000000000000000000000000000000000000000000000000000009000
- rule 0
- answer 7c4384410400000000000000000000000000000000000000000000000094de1ef0c1c0e28900000000000000000000000000000000000000000000000000000000000000009000
- rule 0
- answer 7c1986088422a2020ee0d7d8870d444543564341415430303030319000
- rule 0
- answer 9000
-";
-
 // In the channel of STEP_4 the new PIN 654321, and PACE with it in a session of its own.
 #[rattlefmt::skip]
 const SET_PIN: &str = "apdu 0c2c02031d871101fe1ee7bae07d2a39ae0003d48bcde0e08e08e5bbd02f6bd37f3700\n";
@@ -259,9 +226,11 @@ struct Session {
     said: &'static str,
     /// The answers of a replay.
     answers: &'static [&'static str],
-    /// How many steps of PACE are sent first.
+    /// The password of the steps of PACE that are sent first.
+    with: Password,
+    /// How many these are.
     sent: usize,
-    /// How many of these are carried out as in `STEPS_TOLD`.
+    /// How many of them are carried out as in `told_with`.
     carried_out: usize,
     /// The lines of the script behind these steps.
     more: &'static [&'static str],
@@ -273,145 +242,143 @@ struct Session {
 
 /// The sessions, by what they show.
 #[rattlefmt::skip]
-const SESSIONS: [Session; 20] = [
+const SESSIONS: [Session; 17] = [
     Session {
         shows: "after power on SELECT of the application is carried out", config: ACCESS, said: RUN, answers: &[],
-        sent: 0, carried_out: 0,
+        with: Password::Can, sent: 0, carried_out: 0,
         more: &["apdu 00A4040C09E80704007F00070302\n"],
         told: &[" rule 0\n answer 9000\n"],
         kept: true,
     },
     Session {
         shows: "a READ BINARY gives what is left of 100 bytes", config: ACCESS_OF_100_BYTES, said: RUN, answers: &[],
-        sent: 0, carried_out: 0,
+        with: Password::Can, sent: 0, carried_out: 0,
         more: &["apdu 00B09C6400\napdu 00B09C6500\napdu 00B09C00C8\n"],
         told: &[" rule 0\n answer 9000\n rule 38\n answer 6b00\n rule 0\n answer 316200000000000000000000000000000000000000000000000000000000000000000000000000000000000000000000000000000000000000000000000000000000000000000000000000000000000000000000000000000000000000000000000000006282\n"],
         kept: true,
     },
     Session {
         shows: "each refusal has its rule and status", config: ACCESS, said: RUN, answers: &[],
-        sent: 0, carried_out: 0,
+        with: Password::Can, sent: 0, carried_out: 0,
         more: &["apdu 00B0\napdu 00FF0000\napdu 00A4000000\napdu 00A4040C00\napdu 00A4040C02A000\napdu 00B0000000\n"],
         told: &[" rule 1\n answer 6700\n rule 5\n answer 6d00\n rule 6\n answer 6a86\n rule 10\n answer 6a80\n rule 13\n answer 6a82\n rule 12\n answer 6986\n"],
         kept: true,
     },
     Session {
         shows: "PACE with the CAN opens a channel, in which a command counts once", config: ACCESS, said: RUN, answers: &[],
-        sent: 5, carried_out: 5,
+        with: Password::Can, sent: 5, carried_out: 5,
         more: &["apdu 0cb09d000d9701008e08b31aafca60fc90af00\napdu 0cb084000d9701008e0818b9dc8abcd582de00\napdu 0cb084000d9701008e0818b9dc8abcd582de00\napdu 0cb09d000d9701008e08ed9c031c3d8e290200\n"],
         told: &[" rule 0\n answer 30009000\n rule 26\n answer 6982\n rule 3\n answer 6988\n rule 4\n answer 6e00\n"],
         kept: true,
     },
     Session {
         shows: "a missing answer is a fault, and the next step is none", config: ACCESS, said: REPLAY, answers: &[NONCE_ANSWER],
-        sent: 3, carried_out: 2,
+        with: Password::Can, sent: 3, carried_out: 2,
         more: &["apdu 10860000457c43814104000000000000000000000000000000000000000000000000e3e10338a6bccd8b000000000000000000000000000000000000000000000000000000000000000000\n"],
         told: &[" rule 50\n answer 6f00\n rule 9\n answer 6985\n"],
         kept: true,
     },
     Session {
         shows: "the chip's point is not the terminal's", config: ACCESS, said: REPLAY, answers: &[NONCE_ANSWER, PAIR_ANSWER, MAP_ANSWER, PAIR_OF_THE_TERMINAL],
-        sent: 4, carried_out: 3,
+        with: Password::Can, sent: 4, carried_out: 3,
         more: &[],
         told: &[" rule 51\n answer 6300\n"],
         kept: true,
     },
     Session {
         shows: "a nonce that maps to no point is a wrong body", config: ACCESS, said: REPLAY, answers: &[NONCE_ANSWER, PAIR_ANSWER, "map none\n"],
-        sent: 3, carried_out: 2,
+        with: Password::Can, sent: 3, carried_out: 2,
         more: &[],
         told: &[" rule 52\n answer 6a80\n"],
         kept: true,
     },
     Session {
         shows: "a password has the reference 02, 03 or 04", config: ACCESS, said: RUN, answers: &[],
-        sent: 0, carried_out: 0,
+        with: Password::Can, sent: 0, carried_out: 0,
         more: &["apdu 0022C1A40F800A04007F00070202040202830105\n"],
         told: &[" rule 11\n answer 6a88\n"],
         kept: true,
     },
     Session {
-        shows: "after two wrong PINs the last try needs the CAN, and the right PIN gives three again", config: ACCESS, said: RUN, answers: &[],
-        sent: 0, carried_out: 0,
-        more: &[TWO_WRONG_PINS, CAN_AFTER_THEM, RIGHT_PIN],
-        told: &[TWO_WRONG_PINS_TOLD, CAN_AFTER_THEM_TOLD, RIGHT_PIN_TOLD],
-        kept: false,
-    },
-    Session {
-        shows: "a third wrong PIN blocks the PIN, and the PUK unblocks it", config: ACCESS, said: RUN, answers: &[],
-        sent: 0, carried_out: 0,
-        more: &[TWO_WRONG_PINS, CAN_AFTER_THEM, WRONG_PIN_AND_PUK],
-        told: &[TWO_WRONG_PINS_TOLD, CAN_AFTER_THEM_TOLD, WRONG_PIN_AND_PUK_TOLD],
-        kept: false,
-    },
-    Session {
-        shows: "at the last commit number a right PIN is refused", config: "card_access = '3100'\nnumber = 4294967294\n", said: RUN, answers: &[],
-        sent: 0, carried_out: 0,
-        more: &[CHOOSE_PIN, STEP_1, STEP_2, STEP_3, STEP_4],
-        told: &[DONE, STEP_1_WITH_PIN, STEP_2_TOLD, STEP_3_TOLD, " rule 54\n answer 6581\n"],
-        kept: true,
-    },
-    Session {
         shows: "at the last commit number PACE with the CAN is carried out", config: "card_access = '3100'\nnumber = 4294967294\n", said: RUN, answers: &[],
-        sent: 5, carried_out: 5,
+        with: Password::Can, sent: 5, carried_out: 5,
         more: &[],
         told: &[],
         kept: true,
     },
     Session {
-        shows: "an inactive PIN is told and refused", config: "card_access = '3100'\nactive = false\n", said: RUN, answers: &[],
-        sent: 0, carried_out: 0,
-        more: &[CHOOSE_PIN, STEP_1],
-        told: &[" rule 0\n answer 6283\n rule 15\n answer 6984\n"],
-        kept: true,
-    },
-    Session {
-        shows: "after PACE with the PIN a new one is set", config: ACCESS, said: RUN, answers: &[],
-        sent: 0, carried_out: 0,
-        more: &[CHOOSE_PIN, STEP_1, STEP_2, STEP_3, STEP_4, SET_PIN, NEW_PIN],
-        told: &[DONE, STEP_1_WITH_PIN, STEP_2_TOLD, STEP_3_TOLD, STEP_4_TOLD, DONE, NEW_PIN_TOLD],
-        kept: false,
-    },
-    Session {
         shows: "after PACE with the CAN no PIN is set", config: ACCESS, said: RUN, answers: &[],
-        sent: 5, carried_out: 5,
+        with: Password::Can, sent: 5, carried_out: 5,
         more: &[SET_PIN],
         told: &[" rule 29\n answer 6982\n"],
         kept: true,
     },
     Session {
+        shows: "at the last commit number a right PIN is refused", config: "card_access = '3100'\nnumber = 4294967294\n", said: RUN, answers: &[],
+        with: Password::Pin, sent: 5, carried_out: 4,
+        more: &[],
+        told: &[" rule 54\n answer 6581\n"],
+        kept: true,
+    },
+    Session {
+        shows: "an inactive PIN is told and refused", config: "card_access = '3100'\nactive = false\n", said: RUN, answers: &[],
+        with: Password::Pin, sent: 2, carried_out: 0,
+        more: &[],
+        told: &[" rule 0\n answer 6283\n rule 15\n answer 6984\n"],
+        kept: true,
+    },
+    Session {
         shows: "without unblockings nothing is unblocked after PACE with the PUK", config: "card_access = '3100'\nunblocks = 0\n", said: RUN, answers: &[],
-        sent: 0, carried_out: 0,
-        more: &[CHOOSE_PUK, STEP_1, STEP_2, STEP_3, STEP_4, UNBLOCK],
-        told: &[DONE, STEP_1_WITH_PUK, STEP_2_TOLD, STEP_3_TOLD, STEP_4_TOLD, " rule 30\n answer 6983\n"],
+        with: Password::Puk, sent: 5, carried_out: 5,
+        more: &[UNBLOCK],
+        told: &[" rule 30\n answer 6983\n"],
         kept: true,
     },
     Session {
         shows: "a cut in the write that would open the gate loses the right PIN, and spends no try", config: ACCESS, said: RUN, answers: &[],
-        sent: 0, carried_out: 0,
-        more: &[CHOOSE_PIN, STEP_1, STEP_2, STEP_3, "cut 9 half\n", STEP_4, "on\n", CHOOSE_PIN],
-        told: &[DONE, STEP_1_WITH_PIN, STEP_2_TOLD, STEP_3_TOLD, LOST, DONE],
+        with: Password::Pin, sent: 4, carried_out: 4,
+        more: &["cut 9 half\n", STEP_4, "on\n", CHOOSE_PIN],
+        told: &[LOST, DONE],
         kept: false,
     },
     Session {
         shows: "where that write opened it all the same the try is spent", config: ACCESS, said: RUN, answers: &[],
-        sent: 0, carried_out: 0,
-        more: &[CHOOSE_PIN, STEP_1, STEP_2, STEP_3, "cut 9 new\n", STEP_4, "on\n", CHOOSE_PIN],
-        told: &[DONE, STEP_1_WITH_PIN, STEP_2_TOLD, STEP_3_TOLD, LOST, TWO_LEFT],
+        with: Password::Pin, sent: 4, carried_out: 4,
+        more: &["cut 9 new\n", STEP_4, "on\n", CHOOSE_PIN],
+        told: &[LOST, TWO_LEFT],
         kept: false,
     },
     Session {
         shows: "a cut behind the first commit costs the try, and leaves no session", config: ACCESS, said: RUN, answers: &[],
-        sent: 0, carried_out: 0,
-        more: &[CHOOSE_PIN, STEP_1, STEP_2, STEP_3, "cut 10 fill 00\n", STEP_4, "on\n", "apdu 00b0840000\n", CHOOSE_PIN],
-        told: &[DONE, STEP_1_WITH_PIN, STEP_2_TOLD, STEP_3_TOLD, LOST, " rule 20\n answer 6982\n", TWO_LEFT],
+        with: Password::Pin, sent: 4, carried_out: 4,
+        more: &["cut 10 fill 00\n", STEP_4, "on\n", "apdu 00b0840000\n", CHOOSE_PIN],
+        told: &[LOST, " rule 20\n answer 6982\n", TWO_LEFT],
         kept: false,
     },
     Session {
         shows: "a cut in the last write of the second one is lost, and gives the tries back", config: ACCESS, said: RUN, answers: &[],
-        sent: 0, carried_out: 0,
-        more: &[CHOOSE_PIN, STEP_1, STEP_2, STEP_3, "cut 19 new\n", STEP_4, "on\n", CHOOSE_PIN],
-        told: &[DONE, STEP_1_WITH_PIN, STEP_2_TOLD, STEP_3_TOLD, LOST, DONE],
+        with: Password::Pin, sent: 4, carried_out: 4,
+        more: &["cut 19 new\n", STEP_4, "on\n", CHOOSE_PIN],
+        told: &[LOST, DONE],
+        kept: false,
+    },
+];
+
+/// Those that are longer.
+#[rattlefmt::skip]
+const LONG_SESSIONS: [Session; 2] = [
+    Session {
+        shows: "after two wrong PINs the last try needs the CAN, and the right PIN gives three again", config: ACCESS, said: RUN, answers: &[],
+        with: Password::Pin, sent: 0, carried_out: 0,
+        more: &[TWO_WRONG_PINS, CAN_AFTER_THEM, RIGHT_PIN],
+        told: &[TWO_WRONG_PINS_TOLD, CAN_AFTER_THEM_TOLD, RIGHT_PIN_TOLD],
+        kept: false,
+    },
+    Session {
+        shows: "after PACE with the PIN a new one is set", config: ACCESS, said: RUN, answers: &[],
+        with: Password::Pin, sent: 5, carried_out: 5,
+        more: &[SET_PIN, NEW_PIN],
+        told: &[DONE, NEW_PIN_TOLD],
         kept: false,
     },
 ];
@@ -445,10 +412,15 @@ fn front(
 /// Whether the commands have these rules and answers, and the image stays or not.
 fn is_so(rt: &HostRuntime, session: &Session) -> Result<bool, AllocError> {
     let cells = image(rt, session.config)?;
-    let sent = front(rt, &STEPS, session.sent, session.more)?;
+    let sent = front(rt, &steps_with(session.with), session.sent, session.more)?;
     let script = joined(rt, &["on\n", sent.as_str()])?;
     let answers = joined(rt, session.answers)?;
-    let told = front(rt, &STEPS_TOLD, session.carried_out, session.told)?;
+    let told = front(
+        rt,
+        &told_with(session.with),
+        session.carried_out,
+        session.told,
+    )?;
     let mut files = Vec::new(rt.alloc());
     push_file(rt, &mut files, "image", cells.as_slice())?;
     push_file(rt, &mut files, "script", script.as_bytes())?;
@@ -467,6 +439,14 @@ fn is_so(rt: &HostRuntime, session: &Session) -> Result<bool, AllocError> {
 #[test]
 fn each_command_has_its_rule_and_answer(rt: HostRuntime) -> Result<(), Fail> {
     for session in &SESSIONS {
+        assert!(rt; is_so(&rt, session)?, "{}", session.shows);
+    }
+    Ok(())
+}
+
+#[test]
+fn each_command_of_a_long_session_has_its_rule_and_answer(rt: HostRuntime) -> Result<(), Fail> {
+    for session in &LONG_SESSIONS {
         assert!(rt; is_so(&rt, session)?, "{}", session.shows);
     }
     Ok(())
