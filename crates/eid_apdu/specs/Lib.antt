@@ -2,3 +2,4 @@ pub mod Command
 pub mod Writing
 pub mod Fields
 pub mod Answer
+pub mod Chaining

@@ -1,0 +1,54 @@
+-- Command chaining (ISO/IEC 7816-4): a request that is sent in several commands. All but the last have class 10, and all have
+-- the same instruction and parameters; the request's body is their bodies, joined.
+use Rattle.std.specs.Prelude.{ℕ, Bool, true, ◌==◌, ◌&&◌, ◌||◌, not, nat_le, List, ◌++◌, length, Option, Some, None, if◌then◌else◌}
+use Rattle.eid_apdu.specs.Command.{PlainCommand}
+use Rattle.eid_apdu.specs.declared.chain.Fed.{Fed}
+use Rattle.eid_apdu.specs.declared.chain.Fed.TheVariants.{More, Whole, Broken, TooLong}
+
+-- A chain of fragments that has not ended: instruction and parameters of its commands, and their bodies joined.
+pub record OpenChain : Type 0 where
+  pub ins : ℕ
+  pub p1 : ℕ
+  pub p2 : ℕ
+  pub joined : List ℕ
+
+-- the instructions whose requests may be sent in fragments: MSE, PSO, UPDATE BINARY
+abbrev pub may_be_chained : ℕ → Bool
+may_be_chained ins = ins == 0x22 || ins == 0x2A || ins == 0xD6
+
+-- the command is one that further commands of its request follow
+abbrev pub is_fragment : PlainCommand → Bool
+is_fragment c = c.cla == 0x10 && may_be_chained c.ins
+
+-- no chain is open, or the command has the instruction and parameters of the chain
+abbrev pub continues : Option OpenChain → PlainCommand → Bool
+continues None c = true
+continues (Some chain) c = chain.ins == c.ins && chain.p1 == c.p1 && chain.p2 == c.p2
+
+-- the body of the request so far
+abbrev pub body_so_far : Option OpenChain → List ℕ → List ℕ
+body_so_far None body = body
+body_so_far (Some chain) body = chain.joined ++ body
+
+-- the command with the bodies of the fragments before it in front of its own
+abbrev pub request : Option OpenChain → PlainCommand → PlainCommand
+request chain c = record c { body = body_so_far chain c.body }
+
+-- the longest body of one request
+abbrev pub MAX_REQUEST : ℕ
+MAX_REQUEST = 2048
+
+-- what a command is to the chain that is open, or to none
+unfoldable pub fed : Option OpenChain → PlainCommand → Fed
+fed chain c =
+    if not (continues chain c) then Broken
+    else if not (nat_le (length (body_so_far chain c.body)) MAX_REQUEST) then TooLong
+    else if is_fragment c then More
+    else Whole
+
+-- the chain after it: open behind a fragment that goes on with it, or begins one
+abbrev pub chain_after : Option OpenChain → PlainCommand → Fed → Option OpenChain
+chain_after chain c More = Some (record { ins = c.ins; p1 = c.p1; p2 = c.p2; joined = body_so_far chain c.body })
+chain_after chain c Whole = None
+chain_after chain c Broken = None
+chain_after chain c TooLong = None
