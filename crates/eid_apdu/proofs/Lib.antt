@@ -1,3 +1,4 @@
+pub mod Chains
 pub mod OneCommand
 pub mod Tails
 pub mod Written

@@ -1,6 +1,6 @@
 -- Command chaining (ISO/IEC 7816-4): a request that is sent in several commands. All but the last have class 10, and all have
 -- the same instruction and parameters; the request's body is their bodies, joined.
-use Rattle.std.specs.Prelude.{ℕ, Bool, true, ◌==◌, ◌&&◌, ◌||◌, not, nat_le, List, ◌++◌, length, Option, Some, None, if◌then◌else◌}
+use Rattle.std.specs.Prelude.{ℕ, Bool, true, false, ◌≡◌, ◌<◌, ◌≤◌, ◌==◌, ◌&&◌, ◌||◌, not, nat_le, List, [], ◌++◌, length, Option, Some, None, if◌then◌else◌}
 use Rattle.eid_apdu.specs.Command.{PlainCommand}
 use Rattle.eid_apdu.specs.declared.chain.Fed.{Fed}
 use Rattle.eid_apdu.specs.declared.chain.Fed.TheVariants.{More, Whole, Broken, TooLong}
@@ -52,3 +52,30 @@ chain_after chain c More = Some (record { ins = c.ins; p1 = c.p1; p2 = c.p2; joi
 chain_after chain c Whole = None
 chain_after chain c Broken = None
 chain_after chain c TooLong = None
+
+-- The same case by case: what is known of a command of which this was said.
+abbrev pub Says : Option OpenChain → PlainCommand → Fed → Type 0
+Says chain c More = (continues chain c ≡ true) × (length (body_so_far chain c.body) ≤ MAX_REQUEST) × (is_fragment c ≡ true)
+Says chain c Whole = (continues chain c ≡ true) × (length (body_so_far chain c.body) ≤ MAX_REQUEST) × (is_fragment c ≡ false)
+Says chain c Broken = continues chain c ≡ false
+Says chain c TooLong = (continues chain c ≡ true) × (MAX_REQUEST < length (body_so_far chain c.body))
+
+-- What a collector of requests holds: the chain that is open, and the bodies joined so far.
+pub record Collected : Type 0 where
+  pub pending : Option OpenChain
+  pub body : List ℕ
+
+-- nothing is open, and no body is there
+abbrev pub nothing_collected : Collected
+nothing_collected = record { pending = None; body = [] }
+
+-- the body that is held after a command
+abbrev pub body_after : Option OpenChain → PlainCommand → Fed → List ℕ
+body_after chain c More = body_so_far chain c.body
+body_after chain c Whole = body_so_far chain c.body
+body_after chain c Broken = []
+body_after chain c TooLong = []
+
+-- what is held after a command
+abbrev pub collected : Option OpenChain → PlainCommand → Fed → Collected
+collected chain c said = record { pending = chain_after chain c said; body = body_after chain c said }

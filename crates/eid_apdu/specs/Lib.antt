@@ -3,3 +3,4 @@ pub mod Writing
 pub mod Fields
 pub mod Answer
 pub mod Chaining
+pub mod Collecting

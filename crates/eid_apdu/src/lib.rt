@@ -1,10 +1,12 @@
 //! Command and response APDUs (ISO/IEC 7816-4).
 #![tactic(auto)]
 
+mod chain;
 mod command;
 mod reply;
 mod writing;
 
+pub use chain::{Chain, Fed, MAX_REQUEST, is_fragment};
 pub use command::{
     BadApdu, Command, extended_expected, law_one_command, read_command, short_expected,
 };
