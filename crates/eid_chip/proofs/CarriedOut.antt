@@ -25,7 +25,7 @@ unasked_at true q e = e
 unasked_at false q e = refl
 
 -- the state of a session without a run
-pub idle_state : (s : Session) (m : Memory) (channel : Option ChannelState) → s.run ≡ runs.Idle → s.memory ≡ m → state s channel ≡ record { next = None; phase = phases.Idle; selected = m.selected; current = option_map (λ file. file.0) m.current; pace = option_map memory m.pace; channel = channel }
+pub idle_state : (s : Session) (m : Memory) (channel : Option ChannelState) → s.run ≡ runs.Idle → s.memory ≡ m → state s channel ≡ record { next = None; phase = phases.Idle; selected = m.selected; current = option_map (λ file. file.0) m.current; pace = option_map memory m.pace; channel = channel; chaining = None }
 idle_state s m channel run kept =
     let phase = ap phase_of run in
     let next = ap next_of run in

@@ -3,6 +3,7 @@ use Rattle.std.proofs.Common.{◌≡◌, ℕ, Bool, true, false, ◌==◌, ◌||
 use Rattle.std.specs.Prelude.{is_some, option_map, if◌then◌else◌}
 use Rattle.std.specs.Option.{option_or}
 use Rattle.eid_apdu.specs.Command.{PlainCommand}
+use Rattle.eid_apdu.specs.Chaining.{OpenChain}
 use Rattle.eid_apdu.specs.Answer.{PlainReply, spelled}
 use Rattle.eid_cells.specs.Device.{Device}
 use Rattle.eid_copro.specs.Seen.{CoproSeen}
@@ -26,7 +27,7 @@ use Rattle.eid_chip.specs.declared.running.Running.{Running}
 use Rattle.eid_chip.specs.declared.session.Session.{Session}
 use Rattle.eid_chip.specs.Held.{held}
 use Rattle.eid_chip.specs.Worlds.{World}
-use Rattle.eid_chip.specs.States.{RunningView, ChipView, running_view, state}
+use Rattle.eid_chip.specs.States.{RunningView, ChipView, chained, running_view, state}
 use Rattle.eid_chip.specs.Steps.{outcome_seen, message_in, sent_next, channel_left, state_left, IsEndedByRules, Responds}
 use Rattle.eid_chip.specs.Fits.{Scene, scene, Fits, Follows, Handles, HasState, IsSoundRunning, Came, Silence, Answer, Loss, moment_of}
 use Rattle.eid_chip.specs.Transitions.{two_messages_later}
@@ -59,18 +60,18 @@ kept_channel (Some ch) opened rule = by (rule == 2) (rule == 3) where
   by false false = refl
 
 -- a chip with power that answered makes a legal moment, and fits the journal with it
-pub chip_answers : (old : Scene) (running : RunningView) (after : Option RunningView) (new_state : State) (bytes : List ℕ) (incoming : Incoming) (plain : Option PlainCommand) (asks : List Ask) (r : Reaction) (finished : ℕ) (reply : PlainReply) (sent : List ℕ) (was now : World)
-    → old.chip.running ≡ Some running → was.cells ≡ old.cells → after ≡ Some (record { store = now.store; state = new_state }) → new_state ≡ state_left r running.state.channel
+pub chip_answers : (old : Scene) (running : RunningView) (after : Option RunningView) (new_state : State) (bytes : List ℕ) (incoming : Incoming) (plain : Option PlainCommand) (asks : List Ask) (r : Reaction) (finished : ℕ) (reply : PlainReply) (sent : List ℕ) (fragments : Option OpenChain) (was now : World)
+    → old.chip.running ≡ Some running → was.cells ≡ old.cells → after ≡ Some (record { store = now.store; state = new_state }) → new_state ≡ chained fragments (state_left r running.state.channel)
     → sent ≡ sent_in running.state.channel r.rule.0 reply → IsReadAs running.state.channel bytes incoming → plain ≡ plain_of incoming
-    → IsEndedByRules running.state incoming asks (ended.Answered r finished) reply was now
+    → IsEndedByRules running.state incoming asks (ended.Answered r finished) reply fragments was now
     → Follows old (record { chip = record { running = after }; device = now.device; cells = now.cells }) (moment_of bytes asks (Answer plain finished r.rule.0 reply sent))
-chip_answers old running after new_state bytes incoming plain asks r finished reply sent was now alive cells_are running_is left_is written reads plain_is did opening before fits =
+chip_answers old running after new_state bytes incoming plain asks r finished reply sent fragments was now alive cells_are running_is left_is written reads plain_is did opening before fits =
     let power : on before ≡ true = sym fits.powered ∙ ap is_some alive in
     let same_state : running.state ≡ state_of opening before = subst (λ (l : Option RunningView). HasState l opening before) alive fits.state in
     let none : pending opening before ≡ None = on_pends_nothing opening before power in
     let standing : stands old.cells ≡ Some (kept opening before) = subst (λ (p : Option PlainEffect). MayHold p (kept opening before) (stands old.cells)) none fits.standing in
     let is : held was.cells ≡ kept opening before = held_is was.cells (kept opening before) (ap stands cells_are ∙ standing) in
-    let done = responded running.state opening before bytes incoming asks r finished reply was now power same_state is reads did in
+    let done = responded running.state opening before bytes incoming asks r finished reply fragments was now power same_state is reads did in
     let same : answered running.state.channel bytes incoming asks finished (outcome_seen r reply) ≡ moment_of bytes asks (Answer plain finished r.rule.0 reply sent) =
     ap (λ (p : Option PlainCommand). moment_of bytes asks (Answer p finished r.rule.0 reply (sent_in running.state.channel r.rule.0 reply))) (sym plain_is)
     ∙ ap (λ (s : List ℕ). moment_of bytes asks (Answer plain finished r.rule.0 reply s)) (sym written) in
@@ -85,17 +86,17 @@ chip_answers old running after new_state bytes incoming plain asks r finished re
     )
 
 -- a chip with power that was lost in a commit is off
-pub chip_lost : (old : Scene) (running : RunningView) (after : Option RunningView) (bytes : List ℕ) (incoming : Incoming) (plain : Option PlainCommand) (asks : List Ask) (finished : ℕ) (reply : PlainReply) (was now : World)
+pub chip_lost : (old : Scene) (running : RunningView) (after : Option RunningView) (bytes : List ℕ) (incoming : Incoming) (plain : Option PlainCommand) (asks : List Ask) (finished : ℕ) (reply : PlainReply) (fragments : Option OpenChain) (was now : World)
     → old.chip.running ≡ Some running → was.cells ≡ old.cells → after ≡ None → IsReadAs running.state.channel bytes incoming → plain ≡ plain_of incoming
-    → IsEndedByRules running.state incoming asks (ended.Lost finished) reply was now
+    → IsEndedByRules running.state incoming asks (ended.Lost finished) reply fragments was now
     → Follows old (record { chip = record { running = after }; device = now.device; cells = now.cells }) (moment_of bytes asks (Loss plain finished))
-chip_lost old running after bytes incoming plain asks finished reply was now alive cells_are off reads plain_is did opening before fits =
+chip_lost old running after bytes incoming plain asks finished reply fragments was now alive cells_are off reads plain_is did opening before fits =
     let power : on before ≡ true = sym fits.powered ∙ ap is_some alive in
     let same_state : running.state ≡ state_of opening before = subst (λ (l : Option RunningView). HasState l opening before) alive fits.state in
     let none : pending opening before ≡ None = on_pends_nothing opening before power in
     let standing : stands old.cells ≡ Some (kept opening before) = subst (λ (p : Option PlainEffect). MayHold p (kept opening before) (stands old.cells)) none fits.standing in
     let is : held was.cells ≡ kept opening before = held_is was.cells (kept opening before) (ap stands cells_are ∙ standing) in
-    let done = was_lost running.state opening before bytes incoming asks finished reply was now power same_state is reads did in
+    let done = was_lost running.state opening before bytes incoming asks finished reply fragments was now power same_state is reads did in
     let same : lost_in bytes incoming asks finished ≡ moment_of bytes asks (Loss plain finished) =
     ap (λ (p : Option PlainCommand). moment_of bytes asks (Loss p finished)) (sym plain_is) in
     subst (λ (m : PlainMoment). IsLegalMoment opening before m × Fits (record { chip = record { running = after }; device = now.device; cells = now.cells }) opening (m ∷ before)) same (
@@ -178,22 +179,22 @@ new_fits s opening off standing = record {
 -- ---- bytes that were handled
 
 -- a chip with power answered
-pub handles_answer : (chip : ChipView) (running next : Running) (bytes : List ℕ) (plain : Option PlainCommand) (ending : Ending) (r : Reaction) (finished : ℕ) (reply : PlainReply) (sent : List ℕ) (was now : World)
-    → chip.running ≡ Some (running_view running) → Responds running.session running.channel bytes plain ending reply was now → ending ≡ ended.Answered r finished
+pub handles_answer : (chip : ChipView) (fragments left : Option OpenChain) (running next : Running) (bytes : List ℕ) (plain : Option PlainCommand) (ending : Ending) (r : Reaction) (finished : ℕ) (reply : PlainReply) (sent : List ℕ) (was now : World)
+    → chip.running ≡ Some (running_view fragments running) → Responds running.session running.channel fragments bytes plain ending reply left was now → ending ≡ ended.Answered r finished
     → next.session ≡ r.session → next.store ≡ now.store → next.channel ≡ channel_left r running.channel → sent ≡ sent_in running.channel r.rule.0 reply
-    → Handles was.copro now.copro (scene chip was.device was.cells) (scene (record { running = Some (running_view next) }) now.device now.cells) bytes (Answer plain finished r.rule.0 reply sent)
-handles_answer chip running next bytes plain ending r finished reply sent was now alive responds ends session store channel written =
-    let did = subst (λ (e : Ending). IsEndedByRules (state running.session running.channel) responds.incoming responds.asks e reply was now) ends responds.ended in
-    let next_state : State = state next.session next.channel in
-    let left : next_state ≡ state_left r running.channel =
-    ap (λ (s : Session). state s next.channel) session ∙ ap (λ (c : Option ChannelState). state r.session c) channel in
+    → Handles was.copro now.copro (scene chip was.device was.cells) (scene (record { running = Some (running_view left next) }) now.device now.cells) bytes (Answer plain finished r.rule.0 reply sent)
+handles_answer chip fragments left running next bytes plain ending r finished reply sent was now alive responds ends session store channel written =
+    let did = subst (λ (e : Ending). IsEndedByRules (chained fragments (state running.session running.channel)) responds.incoming responds.asks e reply left was now) ends responds.ended in
+    let next_state : State = chained left (state next.session next.channel) in
+    let left_is : next_state ≡ chained left (state_left r running.channel) =
+    ap (λ (s : Session). chained left (state s next.channel)) session ∙ ap (λ (c : Option ChannelState). chained left (state r.session c)) channel in
     record {
       asks = responds.asks;
       were_asked = responds.were_asked;
       unasked = λ silent. absurd (cc);
       follows =
-          chip_answers (scene chip was.device was.cells) (running_view running) (Some (running_view next)) next_state bytes responds.incoming plain responds.asks r finished reply sent was now
-          alive refl (ap (λ (s : Store). Some (record { store = s; state = next_state })) store) left written responds.reads responds.is_plain did;
+          chip_answers (scene chip was.device was.cells) (running_view fragments running) (Some (running_view left next)) next_state bytes responds.incoming plain responds.asks r finished reply sent left was now
+          alive refl (ap (λ (s : Store). Some (record { store = s; state = next_state })) store) left_is written responds.reads responds.is_plain did;
       silent = rw alive refl;
       running = refl;
       device = did.leaves.2;
@@ -202,17 +203,17 @@ handles_answer chip running next bytes plain ending r finished reply sent was no
     }
 
 -- a chip with power was lost in a commit
-pub handles_loss : (chip : ChipView) (running : Running) (after : Option RunningView) (bytes : List ℕ) (plain : Option PlainCommand) (ending : Ending) (finished : ℕ) (reply : PlainReply) (was now : World)
-    → chip.running ≡ Some (running_view running) → Responds running.session running.channel bytes plain ending reply was now → ending ≡ ended.Lost finished → after ≡ None
+pub handles_loss : (chip : ChipView) (fragments left : Option OpenChain) (running : Running) (after : Option RunningView) (bytes : List ℕ) (plain : Option PlainCommand) (ending : Ending) (finished : ℕ) (reply : PlainReply) (was now : World)
+    → chip.running ≡ Some (running_view fragments running) → Responds running.session running.channel fragments bytes plain ending reply left was now → ending ≡ ended.Lost finished → after ≡ None
     → Handles was.copro now.copro (scene chip was.device was.cells) (scene (record { running = after }) now.device now.cells) bytes (Loss plain finished)
-handles_loss chip running after bytes plain ending finished reply was now alive responds ends off =
-    let did = subst (λ (e : Ending). IsEndedByRules (state running.session running.channel) responds.incoming responds.asks e reply was now) ends responds.ended in
+handles_loss chip fragments left running after bytes plain ending finished reply was now alive responds ends off =
+    let did = subst (λ (e : Ending). IsEndedByRules (chained fragments (state running.session running.channel)) responds.incoming responds.asks e reply left was now) ends responds.ended in
     record {
       asks = responds.asks;
       were_asked = responds.were_asked;
       unasked = λ silent. absurd (cc);
       follows =
-          chip_lost (scene chip was.device was.cells) (running_view running) after bytes responds.incoming plain responds.asks finished reply was now
+          chip_lost (scene chip was.device was.cells) (running_view fragments running) after bytes responds.incoming plain responds.asks finished reply left was now
           alive refl off responds.reads responds.is_plain did;
       silent = rw alive refl;
       running = rw off refl;

@@ -3,6 +3,8 @@ use Rattle.std.proofs.Common.{◌≡◌, ℕ, ◌<◌, ◌+◌, ◌*◌, ◌%◌
 use Rattle.std.specs.Prelude.{if◌then◌else◌, is_some, option_map, unwrap_or}
 use Rattle.std.specs.Option.{option_or}
 use Rattle.eid_apdu.specs.Command.{PlainCommand}
+use Rattle.eid_apdu.specs.Chaining.{OpenChain, chain_after, is_fragment, request}
+use Rattle.eid_apdu.specs.declared.chain.Fed.TheVariants.{More}
 use Rattle.eid_copro.specs.declared.ask.Ask.{Ask}
 use Rattle.eid_copro.specs.declared.ask.Answer.{Answer}
 use Rattle.eid_record.specs.Plain.{FullRecord, PlainEffect}
@@ -11,12 +13,13 @@ use Rattle.eid_pace.specs.States.{PlainDone}
 use Rattle.eid_sm.specs.Keys.{Keys, ChannelState, next_counter}
 use Rattle.eid_model.specs.declared.kind.Kind.{Kind}
 use Rattle.eid_model.specs.declared.kind.Kind.TheVariants.{SelectApplication, SelectMasterFile, SelectFile, ReadBinary, SelectPace, EncryptedNonce, MapNonce, PerformKeyAgreement, MutualAuthentication, ChangePin, UnblockPin, NoStep}
-use Rattle.eid_model.specs.Kinds.{kind_named, step_after}
+use Rattle.eid_model.specs.Kinds.{kind_in_table, step_after}
+use Rattle.eid_model.specs.Chains.{chain_of, chaining, more_pieces, pieces}
 use Rattle.eid_model.specs.Moments.{PlainMoment, on, live, ends_session_by}
 use Rattle.eid_model.specs.Runs.{Step, Phase, Idle, continued, next, phase, entered, run, answers_of}
 use Rattle.eid_model.specs.Sessions.{State, PaceMemory, state_in, state_of, fresh, selects, names, selection, naming, selected, current, pace, pace_done, pace_by, memory_of, keys_of, channel_keys, commands_since_opening, channel_after, channel}
 use Rattle.eid_model.specs.Rules.{Incoming, NoCommand, MissingObjects, WrongObjects, OfCommand, Situation}
-use Rattle.eid_model.specs.Answers.{Outcome, outcome, question, due, situation, kind_incoming, command_of}
+use Rattle.eid_model.specs.Answers.{Outcome, outcome, question, due, situation, kind_incoming, command_of, no_command}
 use Rattle.eid_model.specs.Legal.{IsReadAs, AreAsked, IsHandled, answered, lost_in, situation_after}
 use Rattle.eid_model.specs.Ledger.{kept, pending, first_of, all_committed, MayHold}
 use Rattle.eid_model.proofs.Books.{due_entered, due_incoming, stood_answered, stood_lost}
@@ -25,6 +28,7 @@ use Rattle.eid_apdu.specs.Answer.{PlainReply}
 use Rattle.eid_chip.specs.declared.reaction.Reaction.{Reaction}
 use Rattle.eid_chip.specs.declared.reaction.Ending.TheVariants.{Answered, Lost}
 use Rattle.eid_chip.specs.Held.{held}
+use Rattle.eid_chip.specs.States.{chained}
 use Rattle.eid_chip.specs.Worlds.{World}
 use Rattle.eid_chip.specs.Steps.{IsEndedByRules, outcome_seen, state_left, state_due}
 
@@ -87,26 +91,39 @@ run_phase NoStep c answers steps = refl
 abbrev channel_with : ℕ → Option Keys → Option Keys → Option ChannelState
 channel_with n found last = option_map (channel_after (if is_some found then 0 else n + 1)) (option_or found last)
 
--- what a session's moments leave, with one moment more that carried out this kind, or none
-abbrev more : Option Kind → Option PlainCommand → List Answer → List PlainMoment → State
-more kind plain answers session = record {
-  next = next (continued kind plain answers (run session));
-  phase = phase (continued kind plain answers (run session));
+-- what a session's moments leave, with one moment more that carried out a request of this kind, took this fragment, or neither
+abbrev more : Option Kind → Option PlainCommand → List Answer → Option PlainCommand → List PlainMoment → State
+more kind whole answers piece session = record {
+  next = next (continued kind whole answers (run session));
+  phase = phase (continued kind whole answers (run session));
   selected = unwrap_or (selection kind) (selected session);
-  current = if is_some (selection kind) then None else option_or (naming kind plain) (current session);
+  current = if is_some (selection kind) then None else option_or (naming kind whole) (current session);
   pace = option_map memory_of (option_or (pace_by kind (phase (run session))) (pace session));
   channel = channel_with (commands_since_opening session) (option_map keys_of (pace_by kind (phase (run session)))) (channel_keys session);
+  chaining = chain_of (more_pieces piece (pieces session));
 }
 
-more_none : (plain : Option PlainCommand) (answers : List Answer) (session : List PlainMoment) → more None plain answers session ≡ state_refused (state_in session)
-more_none plain answers session =
-    ap (λ (c : Option ChannelState). record { next = None; phase = Idle; selected = selected session; current = current session; pace = option_map memory_of (pace session); channel = c })
-    (later_channel (commands_since_opening session) (channel_keys session))
+-- the state after a refusal, with the chain that these fragments are
+abbrev refused_with : List PlainCommand → State → State
+refused_with fragments old = chained (chain_of fragments) (state_refused old)
+
+more_none : (whole : Option PlainCommand) (answers : List Answer) (piece : Option PlainCommand) (session : List PlainMoment)
+    → more None whole answers piece session ≡ refused_with (more_pieces piece (pieces session)) (state_in session)
+more_none whole answers piece session =
+    ap (λ (c : Option ChannelState). record {
+      next = None;
+      phase = Idle;
+      selected = selected session;
+      current = current session;
+      pace = option_map memory_of (pace session);
+      channel = c;
+      chaining = chain_of (more_pieces piece (pieces session));
+    }) (later_channel (commands_since_opening session) (channel_keys session))
 
 abbrev made : Option Kind → Phase → Bool → Option ℕ → Option PaceMemory → Option ChannelState → State
-made a b s d e f = record { next = a; phase = b; selected = s; current = d; pace = e; channel = f }
+made a b s d e f = record { next = a; phase = b; selected = s; current = d; pace = e; channel = f; chaining = None }
 
-more_some : (kind : Kind) (c : PlainCommand) (answers : List Answer) (session : List PlainMoment) → more (Some kind) (Some c) answers session ≡ state_carried_out kind c answers (state_in session)
+more_some : (kind : Kind) (c : PlainCommand) (answers : List Answer) (session : List PlainMoment) → more (Some kind) (Some c) answers None session ≡ state_carried_out kind c answers (state_in session)
 more_some kind c answers session =
     let found = pace_done kind (phase (run session)) in
     let a = continued (Some kind) (Some c) answers (run session) in
@@ -121,32 +138,46 @@ more_some kind c answers session =
     ∙ ap (λ x. made (step_after kind) (entered kind c answers (phase (run session))) chosen file (option_or (option_map memory_of found) (option_map memory_of (pace session))) x)
     (channel_more (commands_since_opening session) keys (channel_keys session))
 
-more_at : (carried : Bool) (kind : Option Kind) (c : PlainCommand) (answers : List Answer) (session : List PlainMoment) → more (if carried then kind else None) (Some c) answers session
-    ≡ (if carried then (elim kind [ None ↦ state_refused (state_in session) | Some k ↦ state_carried_out k c answers (state_in session) ]) else state_refused (state_in session))
-more_at true None c answers session = more_none (Some c) answers session
-more_at true (Some kind) c answers session = more_some kind c answers session
-more_at false kind c answers session = more_none (Some c) answers session
+-- a fragment more in a chain
+chain_more : (c : PlainCommand) (fragments : List PlainCommand) → chain_of (c ∷ fragments) ≡ chain_after (chain_of fragments) c More
+chain_more c [] = refl
+chain_more c (last ∷ before) = refl
 
-answered_at : (rule : ℕ) (kind : Option Kind) (c : PlainCommand) (answers : List Answer) (old : State) → (if rule == 0 then (elim kind [ None ↦ state_refused old | Some k ↦ state_carried_out k c answers old ]) else state_refused old) ≡ state_answered rule kind c answers old
-answered_at rule None c answers old = same (rule == 0) (state_refused old)
-  where
-    same : (b : Bool) (s : State) → (if b then s else s) ≡ s
-    same true s = refl
-    same false s = refl
-answered_at rule (Some kind) c answers old = refl
+-- what a command leaves, by whether it was answered without a refusal, whether it is a fragment, and its kind
+more_at : (carried is_piece : Bool) (kind : Option Kind) (rule : ℕ) (c : PlainCommand) (answers : List Answer) (session : List PlainMoment)
+    → (rule == 0) ≡ carried → is_fragment c ≡ is_piece
+    → more (if carried then (if is_piece then None else kind) else None) (Some (request (chaining session) c)) answers
+    (if carried then (if is_piece then Some c else None) else None) session ≡ state_answered rule (if is_piece then None else kind) c answers (state_in session)
+more_at true true kind rule c answers session done piece =
+    more_none (Some (request (chaining session) c)) answers (Some c) session
+    ∙ ap (λ (o : Option OpenChain). chained o (state_refused (state_in session))) (chain_more c (pieces session) ∙ rw (done, piece) refl)
+more_at true false None rule c answers session done piece =
+    more_none (Some (request (chaining session) c)) answers None session
+    ∙ ap (λ (o : Option OpenChain). chained o (state_refused (state_in session))) (rw (done, piece) refl)
+more_at true false (Some kind) rule c answers session done piece =
+    more_some kind (request (chaining session) c) answers session ∙ rw done refl
+more_at false true kind rule c answers session done piece =
+    more_none (Some (request (chaining session) c)) answers None session
+    ∙ ap (λ (o : Option OpenChain). chained o (state_refused (state_in session))) (rw done refl)
+more_at false false None rule c answers session done piece =
+    more_none (Some (request (chaining session) c)) answers None session
+    ∙ ap (λ (o : Option OpenChain). chained o (state_refused (state_in session))) (rw done refl)
+more_at false false (Some kind) rule c answers session done piece =
+    more_none (Some (request (chaining session) c)) answers None session ∙ rw done refl
 
-unread : (carried : Bool) (answers : List Answer) (session : List PlainMoment) → more (if carried then None else None) None answers session ≡ state_refused (state_in session)
-unread true answers session = more_none None answers session
-unread false answers session = more_none None answers session
+-- no command leaves no fragments
+unread : (carried : Bool) (rule : ℕ) (answers : List Answer) (session : List PlainMoment) → (rule == 0) ≡ carried
+    → more (if carried then None else None) None answers (if carried then None else None) session ≡ state_answered rule None no_command answers (state_in session)
+unread true rule answers session is = more_none None answers None session ∙ rw is refl
+unread false rule answers session is = more_none None answers None session ∙ rw is refl
 
 -- the state of a session with one more moment
 pub state_more : (ch : Option ChannelState) (bytes : List ℕ) (incoming : Incoming) (asks : List Ask) (finished : ℕ) (o : Outcome) (session : List PlainMoment) → state_in (answered ch bytes incoming asks finished o ∷ session) ≡ state_answered o.rule (kind_incoming (state_in session) incoming) (command_of incoming) (answers_of asks) (state_in session)
-state_more ch bytes NoCommand asks finished o session = unread (o.rule == 0) (answers_of asks) session
-state_more ch bytes MissingObjects asks finished o session = unread (o.rule == 0) (answers_of asks) session
-state_more ch bytes WrongObjects asks finished o session = unread (o.rule == 0) (answers_of asks) session
+state_more ch bytes NoCommand asks finished o session = unread (o.rule == 0) o.rule (answers_of asks) session refl
+state_more ch bytes MissingObjects asks finished o session = unread (o.rule == 0) o.rule (answers_of asks) session refl
+state_more ch bytes WrongObjects asks finished o session = unread (o.rule == 0) o.rule (answers_of asks) session refl
 state_more ch bytes (OfCommand c) asks finished o session =
-    more_at (o.rule == 0) (kind_named (next (run session)) c) c (answers_of asks) session
-    ∙ answered_at o.rule (kind_named (next (run session)) c) c (answers_of asks) (state_in session)
+    more_at (o.rule == 0) (is_fragment c) (kind_in_table (next (run session)) (request (chaining session) c)) o.rule c (answers_of asks) session refl refl
 
 -- the live moments with one more that was answered
 live_more : (ends : Bool) (rule : ℕ) (m : PlainMoment) (before : List PlainMoment) (new : State) → ends_session_by rule ≡ ends → live (m ∷ before) ≡ (if not (not (ends_session_by rule)) then [] else m ∷ live before) → state_in (m ∷ live before) ≡ new
@@ -167,13 +198,13 @@ same_situation f seen full old left incoming answers same state =
 
 -- A chip with power whose command was answered makes a legal moment, after which the chip is on, its state is what the
 -- moments leave, and the cells hold the record kept.
-pub responded : (old : State) (opening : FullRecord) (before : List PlainMoment) (bytes : List ℕ) (incoming : Incoming) (asks : List Ask) (r : Reaction) (finished : ℕ) (reply : PlainReply) (was now : World)
-    → on before ≡ true → old ≡ state_of opening before → held was.cells ≡ kept opening before → IsReadAs old.channel bytes incoming → IsEndedByRules old incoming asks (Answered r finished) reply was now
+pub responded : (old : State) (opening : FullRecord) (before : List PlainMoment) (bytes : List ℕ) (incoming : Incoming) (asks : List Ask) (r : Reaction) (finished : ℕ) (reply : PlainReply) (left : Option OpenChain) (was now : World)
+    → on before ≡ true → old ≡ state_of opening before → held was.cells ≡ kept opening before → IsReadAs old.channel bytes incoming → IsEndedByRules old incoming asks (Answered r finished) reply left was now
     → IsHandled opening before bytes (answered old.channel bytes incoming asks finished (outcome_seen r reply))
     × (on (answered old.channel bytes incoming asks finished (outcome_seen r reply) ∷ before) ≡ true)
-    × (state_left r old.channel ≡ state_of opening (answered old.channel bytes incoming asks finished (outcome_seen r reply) ∷ before))
+    × (chained left (state_left r old.channel) ≡ state_of opening (answered old.channel bytes incoming asks finished (outcome_seen r reply) ∷ before))
     × Holds opening (answered old.channel bytes incoming asks finished (outcome_seen r reply) ∷ before) now.cells
-responded old opening before bytes incoming asks r finished reply was now power is same reads ended =
+responded old opening before bytes incoming asks r finished reply left was now power is same reads ended =
     let full = kept opening before in
     let m : PlainMoment = answered old.channel bytes incoming asks finished (outcome_seen r reply) in
     let same_channel : old.channel ≡ channel (live before) = ap (λ (s : State). s.channel) is in
@@ -208,10 +239,10 @@ responded old opening before bytes incoming asks r finished reply was now power 
 
 -- A chip with power that was lost in a commit makes a legal moment, after which there is no power, and the cells hold the
 -- record kept, or the one with the effect that is pending.
-pub was_lost : (old : State) (opening : FullRecord) (before : List PlainMoment) (bytes : List ℕ) (incoming : Incoming) (asks : List Ask) (finished : ℕ) (reply : PlainReply) (was now : World)
-    → on before ≡ true → old ≡ state_of opening before → held was.cells ≡ kept opening before → IsReadAs old.channel bytes incoming → IsEndedByRules old incoming asks (Lost finished) reply was now
+pub was_lost : (old : State) (opening : FullRecord) (before : List PlainMoment) (bytes : List ℕ) (incoming : Incoming) (asks : List Ask) (finished : ℕ) (reply : PlainReply) (left : Option OpenChain) (was now : World)
+    → on before ≡ true → old ≡ state_of opening before → held was.cells ≡ kept opening before → IsReadAs old.channel bytes incoming → IsEndedByRules old incoming asks (Lost finished) reply left was now
     → IsHandled opening before bytes (lost_in bytes incoming asks finished) × Holds opening (lost_in bytes incoming asks finished ∷ before) now.cells
-was_lost old opening before bytes incoming asks finished reply was now power is same reads ended =
+was_lost old opening before bytes incoming asks finished reply left was now power is same reads ended =
     let full = kept opening before in
     let m : PlainMoment = lost_in bytes incoming asks finished in
     let same_channel : old.channel ≡ channel (live before) = ap (λ (s : State). s.channel) is in

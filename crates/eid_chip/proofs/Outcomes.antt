@@ -3,6 +3,8 @@ use Rattle.std.proofs.Common.{◌≡◌, ℕ, ◌<◌, ◌≤◌, Bool, true, fa
 use Rattle.std.specs.Prelude.{if◌then◌else◌, is_none, nat_le, option_map}
 use Rattle.std.proofs.lemmas.Bool.Decides.{nat_tests}
 use Rattle.eid_apdu.specs.Command.{PlainCommand}
+use Rattle.eid_apdu.specs.Chaining.{OpenChain, MAX_REQUEST, Says, body_so_far, chain_after, continues, is_fragment, request}
+use Rattle.eid_apdu.specs.declared.chain.Fed.TheVariants.{More}
 use Rattle.eid_apdu.specs.Answer.{PlainReply}
 use Rattle.eid_copro.specs.declared.ask.Ask.{Ask}
 use Rattle.eid_copro.specs.declared.ask.Question.{Question}
@@ -16,19 +18,20 @@ use Rattle.eid_store.specs.Store as stored
 use Rattle.eid_model.specs.declared.kind.Kind.{Kind}
 use Rattle.eid_model.specs.Kinds.{kind_named}
 use Rattle.eid_model.specs.Runs.{answers_of}
-use Rattle.eid_model.specs.Sessions.{State}
-use Rattle.eid_model.specs.Rules.{Incoming, OfCommand, plain_of, Situation, RuleRow, MAX_REQUEST, transport_rules, naming_rules, request_rules, kind_rules, answer_rules, commit_rules, proof_rules, concerns, first_failed, to_commit}
+use Rattle.eid_model.specs.Sessions.{State, unchained}
+use Rattle.eid_model.specs.Rules.{Incoming, OfCommand, plain_of, Situation, RuleRow, transport_rules, naming_rules, request_rules, kind_rules, answer_rules, commit_rules, proof_rules, concerns, first_failed, to_commit}
 use Rattle.eid_model.specs.Answers.{Outcome, outcome, outcome_of, outcome_by, question, question_by, question_of, due, due_by, situation, kind_incoming, command_of, status_alone}
 use Rattle.eid_model.specs.Legal.{AreAsked, IsReadAs}
 use Rattle.eid_model.proofs.Books.{nothing_due_by}
-use Rattle.eid_chip.specs.Transitions.{state_answered, state_carried_out, state_refused}
+use Rattle.eid_chip.specs.Transitions.{state_answered, state_by_kind, state_carried_out, state_refused, two_messages_later, without_run}
 use Rattle.eid_chip.specs.declared.reaction.Reaction.{Reaction}
 use Rattle.eid_chip.specs.declared.reaction.Ending.{Ending}
 use Rattle.eid_chip.specs.declared.reaction.Ending.TheVariants.{Answered, Lost}
 use Rattle.eid_chip.specs.declared.session.Session.{Session}
 use Rattle.eid_chip.specs.Worlds.{World, world, Leaves}
 use Rattle.eid_chip.specs.Held.{held}
-use Rattle.eid_chip.specs.States.{state}
+use Rattle.eid_chip.specs.States.{chained, next_of, state}
+use Rattle.eid_chip.specs.Naming.{Passes}
 use Rattle.eid_chip.specs.Steps.{PlainRefusal, refusal_by, known, with_command, outcome_seen, state_left, state_due, Stepped, Performed, IsAnsweredByKind, IsAnsweredByRules, Reacts, IsEnding, IsNext, IsEndedByKind, IsEndedByRules, Responds, rule_of}
 use Rattle.eid_chip.proofs.Commits.{unwritten}
 use Rattle.eid_chip.proofs.HeldFiles.{held_stands}
@@ -75,25 +78,43 @@ late_rules more kept old c answers names requests =
     passed transport_rules (naming_rules ++ request_rules ++ kind_rules ++ more) s (incoming_so kept old c answers)
     ∙ passed naming_rules (request_rules ++ kind_rules ++ more) s names ∙ passed request_rules (kind_rules ++ more) s requests
 
+-- where a command is the last of its request, and the kind is this
+abbrev at_request : (unbroken : Bool) → Option Kind → FullRecord → State → PlainCommand → List Answer → Situation
+at_request unbroken kind kept old c answers = record {
+  incoming = OfCommand (request old.chaining c);
+  unbroken = unbroken;
+  command = request old.chaining c;
+  kind = kind;
+  kept = kept;
+  state = unchained old;
+  answers = answers;
+}
+
+-- The command goes on with the fragments before it, if there are any, and ends a request of this kind.
+pub record Ends (old : State) (c : PlainCommand) (kind : Kind) : Type 0 where
+  pub goes_on : continues old.chaining c ≡ true
+  pub named : kind_named old.next (request old.chaining c) ≡ Some kind
+
 -- a situation in which the kind was found
-known_so : (kept : FullRecord) (old : State) (c : PlainCommand) (kind : Kind) (answers : List Answer) → kind_named old.next c ≡ Some kind → with_command kept old c answers ≡ known kind kept old c answers
-known_so kept old c kind answers named =
-    ap (λ (k : Option Kind). record { incoming = OfCommand c; command = c; kind = k; kept = kept; state = old; answers = answers }) named
+known_so : (kept : FullRecord) (old : State) (c : PlainCommand) (kind : Kind) (answers : List Answer) → Ends old c kind → with_command kept old c answers ≡ known kind kept (unchained old) (request old.chaining c) answers
+known_so kept old c kind answers ends =
+    ap (λ (k : Option Kind). at_request (continues old.chaining c) k kept old c answers) ends.named
+    ∙ ap (λ (b : Bool). at_request b (Some kind) kept old c answers) ends.goes_on
 
 -- the questions and the outcome are those of the kind
-kind_question : (kept : FullRecord) (old : State) (c : PlainCommand) (kind : Kind) (answers : List Answer) → kind_named old.next c ≡ Some kind → refusal_by naming_rules (with_command kept old c answers) ≡ None → refusal_by request_rules (with_command kept old c answers) ≡ None
-    → question (with_command kept old c answers) ≡ question_by kind_rules (known kind kept old c answers)
+kind_question : (kept : FullRecord) (old : State) (c : PlainCommand) (kind : Kind) (answers : List Answer) → Ends old c kind → refusal_by naming_rules (with_command kept old c answers) ≡ None → refusal_by request_rules (with_command kept old c answers) ≡ None
+    → question (with_command kept old c answers) ≡ question_by kind_rules (known kind kept (unchained old) (request old.chaining c) answers)
 unfolding question
-kind_question kept old c kind answers named names requests =
+kind_question kept old c kind answers ends names requests =
     ap (λ (f : Option RuleRow). if is_none f then question_of (with_command kept old c answers).kind (with_command kept old c answers) else None) (late_rules answer_rules kept old c answers names requests)
-    ∙ ap (λ (s : Situation). question_by kind_rules s) (known_so kept old c kind answers named)
+    ∙ ap (λ (s : Situation). question_by kind_rules s) (known_so kept old c kind answers ends)
 
-kind_outcome : (kept : FullRecord) (old : State) (c : PlainCommand) (kind : Kind) (answers : List Answer) → kind_named old.next c ≡ Some kind → refusal_by naming_rules (with_command kept old c answers) ≡ None → refusal_by request_rules (with_command kept old c answers) ≡ None
-    → outcome (with_command kept old c answers) ≡ outcome_of kind_rules (known kind kept old c answers)
+kind_outcome : (kept : FullRecord) (old : State) (c : PlainCommand) (kind : Kind) (answers : List Answer) → Ends old c kind → refusal_by naming_rules (with_command kept old c answers) ≡ None → refusal_by request_rules (with_command kept old c answers) ≡ None
+    → outcome (with_command kept old c answers) ≡ outcome_of kind_rules (known kind kept (unchained old) (request old.chaining c) answers)
 unfolding outcome
-kind_outcome kept old c kind answers named names requests =
+kind_outcome kept old c kind answers ends names requests =
     ap (λ (f : Option RuleRow). outcome_by f (with_command kept old c answers)) (late_rules (answer_rules ++ commit_rules ++ proof_rules) kept old c answers names requests)
-    ∙ ap (λ (s : Situation). outcome_of kind_rules s) (known_so kept old c kind answers named)
+    ∙ ap (λ (s : Situation). outcome_of kind_rules s) (known_so kept old c kind answers ends)
 
 -- questions by two functions that agree
 asked_alike : (f g : List Answer → Option Question) → ((answers : List Answer) → f answers ≡ g answers) → (given : List Answer) (asks : List Ask) → AreAsked f given asks → AreAsked g given asks
@@ -126,11 +147,11 @@ command_rule kept old c answers o is =
     let later = naming_rules ++ request_rules ++ kind_rules ++ answer_rules ++ commit_rules ++ proof_rules in
     let found : first_failed (transport_rules ++ later) s ≡ first_failed later s = passed transport_rules later s refl in
     ap (λ (x : Outcome). is_on_objects x.rule) (sym is) ∙ ap (λ (f : Option RuleRow). is_on_objects (outcome_by f s).rule) found
-    ∙ others_fail later s (refl, (refl, (refl, (refl, (refl, (refl, (refl, (refl, (refl, (refl, (refl, (refl, (refl, (refl, (refl, (refl, (refl, (refl, (refl, (refl, (refl, (refl, (refl, _)))))))))))))))))))))))
+    ∙ others_fail later s (refl, (refl, (refl, (refl, (refl, (refl, (refl, (refl, (refl, (refl, (refl, (refl, (refl, (refl, (refl, (refl, (refl, (refl, (refl, (refl, (refl, (refl, (refl, (refl, _))))))))))))))))))))))))
 
-pub command_answered : (old : State) (c : PlainCommand) (asks : List Ask) (ending : Ending) (reply : PlainReply) (before after : World) → IsEndedByRules old (OfCommand c) asks ending reply before after → is_on_objects (rule_of ending) ≡ false
-command_answered old c asks (Answered r finished) reply before after did = command_rule (held before.cells) old c (answers_of asks) (outcome_seen r reply) did.ended.1
-command_answered old c asks (Lost finished) reply before after did = refl
+pub command_answered : (old : State) (c : PlainCommand) (asks : List Ask) (ending : Ending) (reply : PlainReply) (left : Option OpenChain) (before after : World) → IsEndedByRules old (OfCommand c) asks ending reply left before after → is_on_objects (rule_of ending) ≡ false
+command_answered old c asks (Answered r finished) reply left before after did = command_rule (held before.cells) old c (answers_of asks) (outcome_seen r reply) did.ended.1
+command_answered old c asks (Lost finished) reply left before after did = refl
 
 -- the outcome of a refusal
 abbrev pub refused_so : PlainRefusal → Outcome
@@ -141,9 +162,12 @@ if_not true x y e = absurd (cc)
 if_not false x y e = refl
 
 -- a refused command leaves the state without a run
+pub refused_by_kind : (rule : ℕ) (kind : Kind) (c : PlainCommand) (answers : List Answer) (old : State) → (rule == 0) ≡ false → state_by_kind rule kind c answers old ≡ state_refused old
+refused_by_kind rule kind c answers old e = if_not (rule == 0) (state_carried_out kind c answers old) (state_refused old) e
+
 pub refused_state : (rule : ℕ) (kind : Option Kind) (c : PlainCommand) (answers : List Answer) (old : State) → (rule == 0) ≡ false → state_answered rule kind c answers old ≡ state_refused old
-refused_state rule None c answers old e = refl
-refused_state rule (Some kind) c answers old e = if_not (rule == 0) (state_carried_out kind c answers old) (state_refused old) e
+refused_state rule None c answers old e = rw e refl
+refused_state rule (Some kind) c answers old e = refused_by_kind rule kind (request old.chaining c) answers (unchained old) e
 
 -- a refusal puts no question, and is the answer
 pub refused_answers : (rows more most later : List RuleRow) (kept : FullRecord) (old : State) (incoming : Incoming) (refused : PlainRefusal) (r : Reaction) (reply : PlainReply) → refusal_by rows (situation kept old incoming []) ≡ Some refused
@@ -202,42 +226,49 @@ transport_refused kept old incoming refused r reply fails is_one rule answered l
     (naming_rules ++ request_rules ++ kind_rules ++ answer_rules ++ commit_rules ++ proof_rules) kept old incoming refused r reply fails
     refl refl refl is_one rule answered left
 
--- a request that is too long, and one that is not
-pub long_request : (kept : FullRecord) (old : State) (c : PlainCommand) (answers : List Answer) → MAX_REQUEST < length c.body → refusal_by request_rules (with_command kept old c answers) ≡ Some (record { rule = 8; status = 0x6700 })
-long_request kept old c answers long =
-    let over : nat_le (length c.body) MAX_REQUEST ≡ false = grind (arith, nat_tests) in
-    rw over refl
+-- a command that does not go on with its chain, a request that is too long, and one that can be answered
+pub broken_request : (kept : FullRecord) (old : State) (c : PlainCommand) (answers : List Answer) → continues old.chaining c ≡ false
+    → refusal_by request_rules (with_command kept old c answers) ≡ Some (record { rule = 7; status = 0x6883 })
+broken_request kept old c answers broken = rw broken refl
 
-pub request_passes : (kept : FullRecord) (old : State) (c : PlainCommand) (answers : List Answer) → length c.body ≤ MAX_REQUEST → refusal_by request_rules (with_command kept old c answers) ≡ None
-request_passes kept old c answers fits =
-    let within : nat_le (length c.body) MAX_REQUEST ≡ true = grind (arith, nat_tests) in
-    rw within refl
+pub long_request : (kept : FullRecord) (old : State) (c : PlainCommand) (answers : List Answer) → continues old.chaining c ≡ true
+    → MAX_REQUEST < length (body_so_far old.chaining c.body) → refusal_by request_rules (with_command kept old c answers) ≡ Some (record { rule = 8; status = 0x6700 })
+long_request kept old c answers goes_on long =
+    let over : nat_le (length (body_so_far old.chaining c.body)) MAX_REQUEST ≡ false = grind (arith, nat_tests) in
+    rw (goes_on, over) refl
+
+pub request_passes : (kept : FullRecord) (old : State) (c : PlainCommand) (answers : List Answer) → continues old.chaining c ≡ true
+    → length (body_so_far old.chaining c.body) ≤ MAX_REQUEST → refusal_by request_rules (with_command kept old c answers) ≡ None
+request_passes kept old c answers goes_on fits =
+    let within : nat_le (length (body_so_far old.chaining c.body)) MAX_REQUEST ≡ true = grind (arith, nat_tests) in
+    rw (goes_on, within) refl
 
 -- ---- how a command ends that may commit
 
 -- the effects due are those of the kind
-kind_due : (kept : FullRecord) (old : State) (c : PlainCommand) (kind : Kind) (answers : List Answer) → kind_named old.next c ≡ Some kind → refusal_by naming_rules (with_command kept old c answers) ≡ None → refusal_by request_rules (with_command kept old c answers) ≡ None
-    → due (with_command kept old c answers) ≡ due_by kind_rules (known kind kept old c answers)
+kind_due : (kept : FullRecord) (old : State) (c : PlainCommand) (kind : Kind) (answers : List Answer) → Ends old c kind → refusal_by naming_rules (with_command kept old c answers) ≡ None → refusal_by request_rules (with_command kept old c answers) ≡ None
+    → due (with_command kept old c answers) ≡ due_by kind_rules (known kind kept (unchained old) (request old.chaining c) answers)
 unfolding due
-kind_due kept old c kind answers named names requests =
+kind_due kept old c kind answers ends names requests =
     ap (λ (f : Option RuleRow). if is_none f then to_commit (with_command kept old c answers).kind (with_command kept old c answers) else []) (late_rules (answer_rules ++ commit_rules) kept old c answers names requests)
-    ∙ ap (λ (s : Situation). due_by kind_rules s) (known_so kept old c kind answers named)
+    ∙ ap (λ (s : Situation). due_by kind_rules s) (known_so kept old c kind answers ends)
 
--- a command of a known kind, in a request that can be answered, ends by the rules of its kind
-pub ended_by_rules : (old : State) (c : PlainCommand) (kind : Kind) (asks : List Ask) (ending : Ending) (reply : PlainReply) (before after : World) → kind_named old.next c ≡ Some kind
+-- the last command of a request of a known kind, which can be answered, ends by the rules of its kind
+pub ended_by_rules : (old : State) (c : PlainCommand) (kind : Kind) (asks : List Ask) (ending : Ending) (reply : PlainReply) (before after : World) → Ends old c kind
     → ((answers : List Answer) → refusal_by naming_rules (with_command (held before.cells) old c answers) ≡ None)
     → ((answers : List Answer) → refusal_by request_rules (with_command (held before.cells) old c answers) ≡ None)
-    → IsEndedByKind kind old c asks ending reply before after → IsEndedByRules old (OfCommand c) asks ending reply before after
-ended_by_rules old c kind asks ending reply before after named names requests did =
+    → IsEndedByKind kind (unchained old) (request old.chaining c) asks ending reply before after → IsEndedByRules old (OfCommand c) asks ending reply None before after
+ended_by_rules old c kind asks ending reply before after ends names requests did =
     let kept = held before.cells in
-    let effects = sym (kind_due kept old c kind (answers_of asks) named (names (answers_of asks)) (requests (answers_of asks))) in
-    let outcome_is = sym (kind_outcome kept old c kind (answers_of asks) named (names (answers_of asks)) (requests (answers_of asks))) in
+    let whole = request old.chaining c in
+    let effects = sym (kind_due kept old c kind (answers_of asks) ends (names (answers_of asks)) (requests (answers_of asks))) in
+    let outcome_is = sym (kind_outcome kept old c kind (answers_of asks) ends (names (answers_of asks)) (requests (answers_of asks))) in
     record {
-      asked = asked_alike (λ answers. question_by kind_rules (known kind kept old c answers)) (λ answers. question (with_command kept old c answers))
-          (λ answers. sym (kind_question kept old c kind answers named (names answers) (requests answers))) [] asks did.asked;
+      asked = asked_alike (λ answers. question_by kind_rules (known kind kept (unchained old) whole answers)) (λ answers. question (with_command kept old c answers))
+          (λ answers. sym (kind_question kept old c kind answers ends (names answers) (requests answers))) [] asks did.asked;
       ended = subst (λ (l : List PlainEffect). IsEnding l (outcome (with_command kept old c (answers_of asks))) ending reply) effects
-          (subst (λ (o : Outcome). IsEnding (due_by kind_rules (known kind kept old c (answers_of asks))) o ending reply) outcome_is did.ended);
-      next = subst (λ (k : Option Kind). IsNext (λ rule. state_answered rule k c (answers_of asks) old) ending old.channel) (sym named) did.next;
+          (subst (λ (o : Outcome). IsEnding (due_by kind_rules (known kind kept (unchained old) whole (answers_of asks))) o ending reply) outcome_is did.ended);
+      next = subst (λ (k : Option Kind). IsNext (λ rule. state_answered rule k c (answers_of asks) old) ending old.channel None) (sym ends.named) did.next;
       leaves = subst (λ (l : List PlainEffect). Leaves l kept ending before after) effects did.leaves;
     }
 
@@ -299,13 +330,13 @@ kind_refused kind kept old c refused r reply fails is_one rule answered left =
         asked = if_not (is_none (first_failed (kind_rules ++ answer_rules) s)) (question_of s.kind s) None (some_failed kind_rules answer_rules s refused fails);
         ended = failed kind_rules (answer_rules ++ commit_rules ++ proof_rules) s refused fails ∙ same;
         left = left ∙ ap (λ (n : ℕ). state_due n (state_refused old)) (sym rule)
-            ∙ ap (λ (x : State). state_due r.rule.0 x) (sym (refused_state r.rule.0 (Some kind) c [] old (ap (λ (n : ℕ). n == 0) rule ∙ is_one)));
+            ∙ ap (λ (x : State). state_due r.rule.0 x) (sym (refused_by_kind r.rule.0 kind c [] old (ap (λ (n : ℕ). n == 0) rule ∙ is_one)));
       },
     )
 
 -- a refusal before the kind is known
 pub refused_ends : (old : State) (incoming : Incoming) (r : Reaction) (reply : PlainReply) (copro : CoproSeen) (store : Store) (device : Device) (cells : List ℕ) → stored.Fits store device cells
-    → IsAnsweredByRules (held cells) old incoming [] r reply → IsEndedByRules old incoming [] (Answered r 0) reply (world copro store device cells) (world copro store device cells)
+    → IsAnsweredByRules (held cells) old incoming [] r reply → IsEndedByRules old incoming [] (Answered r 0) reply None (world copro store device cells) (world copro store device cells)
 refused_ends old incoming r reply copro store device cells fits answers =
     record {
       asked = answers.asked;
@@ -314,38 +345,134 @@ refused_ends old incoming r reply copro store device cells fits answers =
       leaves = leaves_all _ r copro copro store device cells answers.undue fits;
     }
 
--- and so a command that is refused
-pub refused_reacts : (session : Session) (c : PlainCommand) (ending : Ending) (r : Reaction) (reply : PlainReply) (copro : CoproSeen) (store : Store) (device : Device) (cells : List ℕ)
-    → stored.Fits store device cells → ending ≡ Answered r 0 → ((channel : Option ChannelState) → IsAnsweredByRules (held cells) (state session channel) (OfCommand c) [] r reply)
-    → Reacts session c ending reply (world copro store device cells) (world copro store device cells)
-refused_reacts session c ending r reply copro store device cells fits ends answers = record {
+-- and so a command that is refused; no chain is open behind it
+pub refused_reacts : (session : Session) (fragments : Option OpenChain) (c : PlainCommand) (ending : Ending) (r : Reaction) (reply : PlainReply) (left : Option OpenChain) (copro : CoproSeen) (store : Store) (device : Device) (cells : List ℕ)
+    → stored.Fits store device cells → ending ≡ Answered r 0 → left ≡ None
+    → ((channel : Option ChannelState) → IsAnsweredByRules (held cells) (chained fragments (state session channel)) (OfCommand c) [] r reply)
+    → Reacts session fragments c ending reply left (world copro store device cells) (world copro store device cells)
+refused_reacts session fragments c ending r reply left copro store device cells fits ends closed answers = record {
   asks = [];
   were_asked = not_asked copro;
-  ended = λ channel.
-      subst (λ (e : Ending). IsEndedByRules (state session channel) (OfCommand c) [] e reply (world copro store device cells) (world copro store device cells)) (sym ends)
-      (refused_ends (state session channel) (OfCommand c) r reply copro store device cells fits (answers channel));
+  ended = λ channel. let old : State = chained fragments (state session channel) in
+      subst (λ (e : Ending). IsEndedByRules old (OfCommand c) [] e reply left (world copro store device cells) (world copro store device cells)) (sym ends)
+      (subst (λ (o : Option OpenChain). IsEndedByRules old (OfCommand c) [] (Answered r 0) reply o (world copro store device cells) (world copro store device cells)) (sym closed)
+      (refused_ends old (OfCommand c) r reply copro store device cells fits (answers channel)));
   layout = refl;
 }
 
 -- and so a response to bytes of which no command was incoming
-pub refused_responds : (incoming : Incoming) (session : Session) (channel : Option ChannelState) (bytes : List ℕ) (plain : Option PlainCommand) (ending : Ending) (r : Reaction) (reply : PlainReply) (copro : CoproSeen) (store : Store) (device : Device) (cells : List ℕ)
-    → stored.Fits store device cells → IsReadAs channel bytes incoming → plain_of incoming ≡ None → plain ≡ None → ending ≡ Answered r 0 → IsAnsweredByRules (held cells) (state session channel) incoming [] r reply
-    → Responds session channel bytes plain ending reply (world copro store device cells) (world copro store device cells)
-refused_responds incoming session channel bytes plain ending r reply copro store device cells fits reads none is ends answers = record {
-  incoming = incoming;
-  reads = reads;
-  is_plain = is ∙ sym none;
+pub refused_responds : (incoming : Incoming) (session : Session) (channel : Option ChannelState) (fragments : Option OpenChain) (bytes : List ℕ) (plain : Option PlainCommand) (ending : Ending) (r : Reaction) (reply : PlainReply) (left : Option OpenChain) (copro : CoproSeen) (store : Store) (device : Device) (cells : List ℕ)
+    → stored.Fits store device cells → IsReadAs channel bytes incoming → plain_of incoming ≡ None → plain ≡ None → ending ≡ Answered r 0 → left ≡ None
+    → IsAnsweredByRules (held cells) (chained fragments (state session channel)) incoming [] r reply
+    → Responds session channel fragments bytes plain ending reply left (world copro store device cells) (world copro store device cells)
+refused_responds incoming session channel fragments bytes plain ending r reply left copro store device cells fits reads none is ends closed answers =
+    let old : State = chained fragments (state session channel) in
+    record {
+      incoming = incoming;
+      reads = reads;
+      is_plain = is ∙ sym none;
+      asks = [];
+      were_asked = not_asked copro;
+      ended = subst (λ (e : Ending). IsEndedByRules old incoming [] e reply left (world copro store device cells) (world copro store device cells)) (sym ends)
+          (subst (λ (o : Option OpenChain). IsEndedByRules old incoming [] (Answered r 0) reply o (world copro store device cells) (world copro store device cells)) (sym closed)
+          (refused_ends old incoming r reply copro store device cells fits answers));
+      layout = refl;
+    }
+
+-- ---- requests
+
+-- a command of some kind in a request that is refused
+pub request_reacts : (session : Session) (fragments : Option OpenChain) (c : PlainCommand) (refused : PlainRefusal) (ending : Ending) (r : Reaction) (reply : PlainReply) (left : Option OpenChain) (copro : CoproSeen) (store : Store) (device : Device) (cells : List ℕ)
+    → stored.Fits store device cells → ending ≡ Answered r 0 → left ≡ None → Passes c
+    → ((kept : FullRecord) (old : State) → old.chaining ≡ fragments → refusal_by request_rules (with_command kept old c []) ≡ Some refused)
+    → (refused.rule == 0) ≡ false → r.rule.0 ≡ refused.rule → reply ≡ status_alone refused.status
+    → ((channel : Option ChannelState) → state_left r channel ≡ state_due refused.rule (state_refused (state session channel)))
+    → Reacts session fragments c ending reply left (world copro store device cells) (world copro store device cells)
+request_reacts session fragments c refused ending r reply left copro store device cells fits ends closed names fails is_one rule answered leaves =
+    refused_reacts session fragments c ending r reply left copro store device cells fits ends closed
+    (λ channel. let old : State = chained fragments (state session channel) in
+    request_refused (held cells) old c refused r reply (names (held cells) old []) (fails (held cells) old refl) is_one rule answered (leaves channel))
+
+-- the last command of a request that can be answered ends by the rules of its kind
+pub request_answered : (session : Session) (fragments : Option OpenChain) (c whole : PlainCommand) (kind : Kind) (ending : Ending) (reply : PlainReply) (left : Option OpenChain) (before after : World)
+    → continues fragments c ≡ true → length (body_so_far fragments c.body) ≤ MAX_REQUEST → kind_named (next_of session.run) c ≡ Some kind → Passes c
+    → whole ≡ request fragments c → left ≡ None → Performed kind session whole ending reply before after → Reacts session fragments c ending reply left before after
+request_answered session fragments c whole kind ending reply left before after goes_on short named names is closed did = record {
+  asks = did.asks;
+  were_asked = did.were_asked;
+  ended = λ channel. let old : State = chained fragments (state session channel) in
+      subst (λ (o : Option OpenChain). IsEndedByRules old (OfCommand c) did.asks ending reply o before after) (sym closed)
+      (ended_by_rules old c kind did.asks ending reply before after (record { goes_on = goes_on; named = named }) (names (held before.cells) old)
+      (λ answers. request_passes (held before.cells) old c answers goes_on short)
+      (subst (λ (w : PlainCommand). IsEndedByKind kind (state session channel) w did.asks ending reply before after) is (did.ended channel)));
+  layout = did.layout;
+}
+
+-- ---- fragments
+
+-- a fragment has no kind
+fragment_so : (kept : FullRecord) (old : State) (c : PlainCommand) → is_fragment c ≡ true → with_command kept old c [] ≡ at_request (continues old.chaining c) None kept old c []
+fragment_so kept old c is = rw is refl
+
+-- and so no rule behind those on requests concerns it
+fragment_rules : (kept : FullRecord) (old : State) (c : PlainCommand) → is_fragment c ≡ true → refusal_by naming_rules (with_command kept old c []) ≡ None → refusal_by request_rules (with_command kept old c []) ≡ None
+    → first_failed (transport_rules ++ naming_rules ++ request_rules ++ kind_rules ++ answer_rules ++ commit_rules ++ proof_rules) (with_command kept old c []) ≡ None
+fragment_rules kept old c is names requests =
+    late_rules (answer_rules ++ commit_rules ++ proof_rules) kept old c [] names requests
+    ∙ ap (λ (s : Situation). first_failed (kind_rules ++ answer_rules ++ commit_rules ++ proof_rules) s) (fragment_so kept old c is)
+
+fragment_outcome : (kept : FullRecord) (old : State) (c : PlainCommand) → is_fragment c ≡ true → refusal_by naming_rules (with_command kept old c []) ≡ None → refusal_by request_rules (with_command kept old c []) ≡ None
+    → outcome (with_command kept old c []) ≡ record { rule = 0; reply = status_alone 0x9000 }
+unfolding outcome
+fragment_outcome kept old c is names requests =
+    ap (λ (f : Option RuleRow). outcome_by f (with_command kept old c [])) (fragment_rules kept old c is names requests)
+    ∙ ap (λ (s : Situation). outcome_by None s) (fragment_so kept old c is)
+
+same_if : {A : Type 0} (b : Bool) (x : A) → (if b then x else x) ≡ x
+same_if true x = refl
+same_if false x = refl
+
+fragment_asks : (kept : FullRecord) (old : State) (c : PlainCommand) → is_fragment c ≡ true → question (with_command kept old c []) ≡ None
+unfolding question
+fragment_asks kept old c is = ap question (fragment_so kept old c is) ∙ same_if _ None
+
+fragment_due : (kept : FullRecord) (old : State) (c : PlainCommand) → is_fragment c ≡ true → due (with_command kept old c []) ≡ []
+unfolding due
+fragment_due kept old c is = ap due (fragment_so kept old c is) ∙ same_if _ []
+
+-- the state after it: without a run, with the chain that it goes on with
+fragment_state : (rule : ℕ) (kind : Option Kind) (old : State) (c : PlainCommand) (left : Option OpenChain) → rule ≡ 0 → kind ≡ None → is_fragment c ≡ true
+    → left ≡ chain_after old.chaining c More → chained left (state_refused old) ≡ state_due rule (state_answered rule kind c [] old)
+fragment_state rule kind old c left zero none is leaves = rw (zero, none, is, leaves) refl
+
+-- a fragment that is answered
+pub fragment_taken : (session : Session) (fragments : Option OpenChain) (c : PlainCommand) (ending : Ending) (r : Reaction) (reply : PlainReply) (left : Option OpenChain) (copro : CoproSeen) (store : Store) (device : Device) (cells : List ℕ)
+    → stored.Fits store device cells → ending ≡ Answered r 0 → Says fragments c More → Passes c → r.rule.0 ≡ 0 → reply ≡ status_alone 0x9000 → left ≡ chain_after fragments c More
+    → ((channel : Option ChannelState) → state_left r channel ≡ state_refused (state session channel))
+    → Reacts session fragments c ending reply left (world copro store device cells) (world copro store device cells)
+fragment_taken session fragments c ending r reply left copro store device cells fits ends says names rule answered leaves idle = record {
   asks = [];
   were_asked = not_asked copro;
-  ended = subst (λ (e : Ending). IsEndedByRules (state session channel) incoming [] e reply (world copro store device cells) (world copro store device cells)) (sym ends)
-      (refused_ends (state session channel) incoming r reply copro store device cells fits answers);
+  ended = λ channel.
+      let old : State = chained fragments (state session channel) in
+      let is : is_fragment c ≡ true = says.2 in
+      let requests = request_passes (held cells) old c [] says.0 says.1 in
+      subst (λ (e : Ending). IsEndedByRules old (OfCommand c) [] e reply left (world copro store device cells) (world copro store device cells)) (sym ends) (record {
+        asked = fragment_asks (held cells) old c is;
+        ended = (
+          sym (ap length (fragment_due (held cells) old c is)),
+          fragment_outcome (held cells) old c is (names (held cells) old []) requests ∙ rw (rule, answered) refl,
+        );
+        next = ap (λ (s : State). chained left s) (idle channel) ∙ fragment_state r.rule.0 (kind_incoming old (OfCommand c)) old c left rule (rw is refl) is leaves;
+        leaves = leaves_all _ r copro copro store device cells (fragment_due (held cells) old c is) fits;
+      });
   layout = refl;
 }
 
 -- how a command of a known kind ended that puts no question, by what is due and by the outcome
 pub ends_so : (kind : Kind) (old : State) (c : PlainCommand) (effects : List PlainEffect) (o : Outcome) (ending : Ending) (reply : PlainReply) (before after : World)
     → question_by kind_rules (known kind (held before.cells) old c []) ≡ None → due_by kind_rules (known kind (held before.cells) old c []) ≡ effects → outcome_of kind_rules (known kind (held before.cells) old c []) ≡ o
-    → IsEnding effects o ending reply → IsNext (λ rule. state_answered rule (Some kind) c [] old) ending old.channel → Leaves effects (held before.cells) ending before after
+    → IsEnding effects o ending reply → IsNext (λ rule. state_by_kind rule kind c [] old) ending old.channel None → Leaves effects (held before.cells) ending before after
     → IsEndedByKind kind old c [] ending reply before after
 ends_so kind old c effects o ending reply before after unasked due_is outcome_is ended next leaves = record {
   asked = unasked;
@@ -354,3 +481,8 @@ ends_so kind old c effects o ending reply before after unasked due_is outcome_is
   next = next;
   leaves = subst (λ (l : List PlainEffect). Leaves l (held before.cells) ending before after) (sym due_is) leaves;
 }
+
+-- a fragment that is answered takes the run
+pub idle_left : (session new : Session) (r : Reaction) (channel : Option ChannelState) → r.rule.0 ≡ 0 → r.opened ≡ None → r.session ≡ new
+    → ((ch : Option ChannelState) → state new ch ≡ without_run (state session ch)) → state_left r channel ≡ state_refused (state session channel)
+idle_left session new r channel rule opened is without = rw (rule, opened, is) (without (option_map two_messages_later channel))

@@ -32,7 +32,7 @@ use Rattle.eid_model.specs.Bodies.{no_data, authentication_data, data_in, holds_
 use Rattle.eid_model.specs.Rules.{names_password, was_with}
 use Rattle.eid_model.specs.Runs.{Phase, Idle, Chose, SentNonce, HasBase, HasSecret, entered, as_chosen, with_nonce, with_base, with_secret}
 use Rattle.eid_model.specs.Sessions.{State, memory_of, keys_of, channel_after}
-use Rattle.eid_chip.specs.Transitions.{state_answered, state_carried_out, state_refused, two_messages_later}
+use Rattle.eid_chip.specs.Transitions.{state_by_kind, state_carried_out, state_refused, two_messages_later}
 use Rattle.eid_chip.specs.declared.reaction.Reaction.{Reaction}
 use Rattle.eid_chip.specs.declared.session.Session.{Session}
 use Rattle.eid_chip.specs.States.{state}
@@ -47,6 +47,7 @@ moved next phase old = record {
   current = old.current;
   pace = old.pace;
   channel = option_map two_messages_later old.channel;
+  chaining = None;
 }
 
 -- a reaction that carried the command out, and opened no channel
@@ -66,7 +67,7 @@ went_on reaction said old channel new reply rule answer opened session memory = 
 pub outcome_is : (rule : ℕ) (reply : PlainReply) (reaction : Reaction) (said : PlainReply) → reaction.rule.0 ≡ rule → said ≡ reply → record { rule = rule; reply = reply } ≡ outcome_seen reaction said
 outcome_is rule reply reaction said e f = cc
 
-due : (rule : ℕ) (kind : Kind) (c : PlainCommand) (given : List Answer) (old : State) → rule ≡ 0 → state_carried_out kind c given old ≡ state_due rule (state_answered rule (Some kind) c given old)
+due : (rule : ℕ) (kind : Kind) (c : PlainCommand) (given : List Answer) (old : State) → rule ≡ 0 → state_carried_out kind c given old ≡ state_due rule (state_by_kind rule kind c given old)
 due rule kind c given old e = rw e refl
 
 -- a body that has not the form of its step
@@ -75,7 +76,7 @@ pub record WasUnformed (reaction : Reaction) (said : PlainReply) (old : State) :
   pub answered : said ≡ status_alone 0x6A80
   pub state : state_left reaction old.channel ≡ state_due 10 (state_refused old)
 
-not_due : (rule : ℕ) (kind : Kind) (c : PlainCommand) (given : List Answer) (old : State) → rule ≡ 10 → state_due 10 (state_refused old) ≡ state_due rule (state_answered rule (Some kind) c given old)
+not_due : (rule : ℕ) (kind : Kind) (c : PlainCommand) (given : List Answer) (old : State) → rule ≡ 10 → state_due 10 (state_refused old) ≡ state_due rule (state_by_kind rule kind c given old)
 not_due rule kind c given old e = rw e refl
 
 pub no_empty_body : (kept : FullRecord) (old : State) (c : PlainCommand) (reaction : Reaction) (said : PlainReply) → bytes_eq c.body no_data ≡ false → WasUnformed reaction said old → IsAnsweredByKind EncryptedNonce kept old c [] reaction said
@@ -154,7 +155,7 @@ pub record WasRefused (reaction : Reaction) (said : PlainReply) (old : State) (r
 pub idle_refused : (rule n : ℕ) (s idle : Session) (channel : Option ChannelState) → rule ≡ n → idle.memory ≡ s.memory → state_due rule (state_refused (state idle channel)) ≡ state_due n (state_refused (state s channel))
 idle_refused rule n s idle channel e same = rw (e, same) refl
 
-pub not_due_by : (rule n : ℕ) (kind : Kind) (c : PlainCommand) (given : List Answer) (old : State) → rule ≡ n → (n == 0) ≡ false → state_due n (state_refused old) ≡ state_due rule (state_answered rule (Some kind) c given old)
+pub not_due_by : (rule n : ℕ) (kind : Kind) (c : PlainCommand) (given : List Answer) (old : State) → rule ≡ n → (n == 0) ≡ false → state_due n (state_refused old) ≡ state_due rule (state_by_kind rule kind c given old)
 not_due_by rule n kind c given old e is_one = rw (e, is_one) refl
 
 -- the start is refused by one of the rules on it
@@ -282,7 +283,7 @@ last_data kept own = object 0x7C (object 0x86 own ++ object 0x87 kept.fields.cur
 -- the terminal's token was right, and a channel was opened
 pub authenticated : (kept : FullRecord) (old : State) (c : PlainCommand) (agreed : PlainAgreed) (sent : List ℕ) (done : PlainDone) (own : List ℕ) (reaction : Reaction) (said : PlainReply) → old.phase ≡ HasSecret agreed → sent ≡ data_in c.body → holds_value 0x85 8 c.body ≡ true → Ok (done, own) ≡ check_given agreed sent → reaction.rule.0 ≡ 0 → said ≡ data_alone (last_data kept own)
     → is_pin agreed.choice.password ≡ false
-    → state_left reaction old.channel ≡ record { next = None; phase = Idle; selected = old.selected; current = old.current; pace = Some (memory_of done); channel = Some (channel_after 0 (keys_of done)) }
+    → state_left reaction old.channel ≡ record { next = None; phase = Idle; selected = old.selected; current = old.current; pace = Some (memory_of done); channel = Some (channel_after 0 (keys_of done)); chaining = None }
     → IsAnsweredByKind MutualAuthentication kept old c [] reaction said
 unfolding entered
 authenticated kept old c agreed sent done own reaction said at is body e rule answer other left =

@@ -38,7 +38,7 @@ current_by true short current file e = rw e refl
 current_by false short current file e = refl
 
 -- the file is current afterwards
-pub read_leaves : (kept : FullRecord) (old : State) (c : PlainCommand) (file : ℕ) → file_meant (known ReadBinary kept old c []) ≡ Some file → record { next = None; phase = Idle; selected = old.selected; current = if is_by_short c then Some file else old.current; pace = old.pace; channel = option_map two_messages_later old.channel } ≡ state_carried_out ReadBinary c [] old
+pub read_leaves : (kept : FullRecord) (old : State) (c : PlainCommand) (file : ℕ) → file_meant (known ReadBinary kept old c []) ≡ Some file → record { next = None; phase = Idle; selected = old.selected; current = if is_by_short c then Some file else old.current; pace = old.pace; channel = option_map two_messages_later old.channel; chaining = None } ≡ state_carried_out ReadBinary c [] old
 unfolding entered file_meant
 read_leaves kept old c file meant =
-    ap (λ (o : Option ℕ). record { next = None; phase = Idle; selected = old.selected; current = o; pace = old.pace; channel = option_map two_messages_later old.channel }) (current_by (is_by_short c) (file_of_short (c.p1 - 0x80)) old.current file meant)
+    ap (λ (o : Option ℕ). record { next = None; phase = Idle; selected = old.selected; current = o; pace = old.pace; channel = option_map two_messages_later old.channel; chaining = None }) (current_by (is_by_short c) (file_of_short (c.p1 - 0x80)) old.current file meant)

@@ -44,15 +44,15 @@ pub file_passes : (kept : FullRecord) (old : State) (c : PlainCommand) (file : �
 file_passes kept old c file two named = rw (two, named) refl
 
 -- what they leave
-pub application_leaves : (old : State) (c : PlainCommand) → record { next = None; phase = Idle; selected = true; current = None; pace = old.pace; channel = option_map two_messages_later old.channel } ≡ state_carried_out SelectApplication c [] old
+pub application_leaves : (old : State) (c : PlainCommand) → record { next = None; phase = Idle; selected = true; current = None; pace = old.pace; channel = option_map two_messages_later old.channel; chaining = None } ≡ state_carried_out SelectApplication c [] old
 unfolding entered
 application_leaves old c = refl
 
-pub master_file_leaves : (old : State) (c : PlainCommand) → record { next = None; phase = Idle; selected = false; current = None; pace = old.pace; channel = option_map two_messages_later old.channel } ≡ state_carried_out SelectMasterFile c [] old
+pub master_file_leaves : (old : State) (c : PlainCommand) → record { next = None; phase = Idle; selected = false; current = None; pace = old.pace; channel = option_map two_messages_later old.channel; chaining = None } ≡ state_carried_out SelectMasterFile c [] old
 unfolding entered
 master_file_leaves old c = refl
 
-pub file_leaves : (old : State) (c : PlainCommand) (file : ℕ) → file_of_id (number_of_two c.body) ≡ Some file → record { next = None; phase = Idle; selected = old.selected; current = Some file; pace = old.pace; channel = option_map two_messages_later old.channel } ≡ state_carried_out SelectFile c [] old
+pub file_leaves : (old : State) (c : PlainCommand) (file : ℕ) → file_of_id (number_of_two c.body) ≡ Some file → record { next = None; phase = Idle; selected = old.selected; current = Some file; pace = old.pace; channel = option_map two_messages_later old.channel; chaining = None } ≡ state_carried_out SelectFile c [] old
 unfolding entered
 file_leaves old c file named = rw named refl
 

@@ -3,6 +3,7 @@ use Rattle.std.proofs.Common.{◌≡◌, ℕ, ◌≤◌, Bool, true, false, ◌=
 use Rattle.std.specs.Prelude.{◌⊎◌}
 use Rattle.std.proofs.lemmas.Bool.{leb-true, eqb-true}
 use Rattle.eid_apdu.specs.Command.{PlainCommand}
+use Rattle.eid_apdu.specs.Chaining.{OpenChain, request}
 use Rattle.eid_apdu.specs.Answer.{PlainReply}
 use Rattle.eid_copro.specs.declared.ask.Ask.{Ask}
 use Rattle.eid_copro.specs.declared.ask.Answer.{Answer}
@@ -23,7 +24,7 @@ use Rattle.eid_model.proofs.Books.{nothing_due}
 use Rattle.eid_model.proofs.Compared.{is_compared, try_held}
 use Rattle.eid_model.proofs.Laws.{GoesOn, goes_entered}
 use Rattle.eid_chip.specs.Held.{held}
-use Rattle.eid_chip.specs.States.{phase_of, state}
+use Rattle.eid_chip.specs.States.{chained, phase_of, state}
 use Rattle.eid_chip.specs.Steps.{IsEndedByRules, Responds, outcome_seen, state_due}
 use Rattle.eid_chip.specs.Transitions.{state_answered}
 use Rattle.eid_chip.specs.Tries.{tries_pin, IsTryLeft}
@@ -60,7 +61,7 @@ continued_at false true rule (Some kind) c given old ends is e = record {
   carried_out = eqb-true rule 0 is;
   which = kind;
   is = refl;
-  goes = goes_entered kind c given old.phase (rw (ends, is) at e);
+  goes = goes_entered kind (request old.chaining c) given old.phase (rw (ends, is) at e);
 }
 
 -- a command that commits nothing leaves the fields
@@ -68,15 +69,15 @@ fields_stay : (was now : World) → IsMounted was → IsMounted now → stands n
 fields_stay was now before after same =
     sym (held_fields now.store now.device now.cells after) ∙ ap (λ (f : FullRecord). f.fields) (held_is now.cells (held was.cells) same) ∙ held_fields was.store was.device was.cells before
 
-abbrev seen_at : Session → Option ChannelState → Incoming → List Ask → World → Situation
-seen_at session channel incoming asks was = situation (held was.cells) (state session channel) incoming (answers_of asks)
+abbrev seen_at : Session → Option ChannelState → Option OpenChain → Incoming → List Ask → World → Situation
+seen_at session channel fragments incoming asks was = situation (held was.cells) (chained fragments (state session channel)) incoming (answers_of asks)
 
-tries_left : (session : Session) (channel : Option ChannelState) (incoming : Incoming) (asks : List Ask) (r : Reaction) (reply : PlainReply) (was now : World) → IsMounted was → IsTryLeft session.run (stored.fields_of was.store)
-    → outcome (seen_at session channel incoming asks was) ≡ outcome_seen r reply → IsMounted now → stands now.cells ≡ Some (all_committed (due (seen_at session channel incoming asks was)) (held was.cells))
-    → Continued r.rule.0 (kind_incoming (state session channel) incoming) (phase_of session.run) → 1 ≤ (stored.fields_of now.store).tries
-tries_left session channel incoming asks r reply was now mounted earlier is after leaves went = by went.goes.by_step where
+tries_left : (session : Session) (channel : Option ChannelState) (fragments : Option OpenChain) (incoming : Incoming) (asks : List Ask) (r : Reaction) (reply : PlainReply) (was now : World) → IsMounted was → IsTryLeft session.run (stored.fields_of was.store)
+    → outcome (seen_at session channel fragments incoming asks was) ≡ outcome_seen r reply → IsMounted now → stands now.cells ≡ Some (all_committed (due (seen_at session channel fragments incoming asks was)) (held was.cells))
+    → Continued r.rule.0 (kind_incoming (chained fragments (state session channel)) incoming) (phase_of session.run) → 1 ≤ (stored.fields_of now.store).tries
+tries_left session channel fragments incoming asks r reply was now mounted earlier is after leaves went = by went.goes.by_step where
   s : Situation
-  s = seen_at session channel incoming asks was
+  s = seen_at session channel fragments incoming asks was
 
   none : due s ≡ []
   none = nothing_due s (ap (λ (k : Option Kind). to_commit k s) went.is ∙ went.goes.commits_nothing s)
@@ -95,20 +96,20 @@ tries_left session channel incoming asks r reply was now mounted earlier is afte
   by (inr goes) = stays (earlier (phase_tries session.run ∙ goes))
 
 -- the tries after a command that was answered
-pub try_stays : (session : Session) (channel : Option ChannelState) (incoming : Incoming) (asks : List Ask) (r : Reaction) (finished : ℕ) (reply : PlainReply) (was now : World) → IsMounted was → IsTryLeft session.run (stored.fields_of was.store)
-    → IsEndedByRules (state session channel) incoming asks (Answered r finished) reply was now → IsTryLeft r.session.run (stored.fields_of now.store)
-try_stays session channel incoming asks r finished reply was now mounted earlier ended tries =
-    let old : State = state session channel in
+pub try_stays : (session : Session) (channel : Option ChannelState) (fragments : Option OpenChain) (incoming : Incoming) (asks : List Ask) (r : Reaction) (finished : ℕ) (reply : PlainReply) (left : Option OpenChain) (was now : World) → IsMounted was → IsTryLeft session.run (stored.fields_of was.store)
+    → IsEndedByRules (chained fragments (state session channel)) incoming asks (Answered r finished) reply left was now → IsTryLeft r.session.run (stored.fields_of now.store)
+try_stays session channel fragments incoming asks r finished reply left was now mounted earlier ended tries =
+    let old : State = chained fragments (state session channel) in
     let s : Situation = situation (held was.cells) old incoming (answers_of asks) in
     let next : phase_of r.session.run ≡ (state_due r.rule.0 (state_answered r.rule.0 (kind_incoming old incoming) (command_of incoming) (answers_of asks) old)).phase = ap (λ (x : State). x.phase) ended.next in
     let goes : goes_on_with_pin (state_due r.rule.0 (state_answered r.rule.0 (kind_incoming old incoming) (command_of incoming) (answers_of asks) old)).phase ≡ true =
     ap goes_on_with_pin (sym next) ∙ sym (phase_tries r.session.run) ∙ tries in
     let went = continued_at (ends_session_by r.rule.0) (r.rule.0 == 0) r.rule.0 (kind_incoming old incoming) (command_of incoming) (answers_of asks) old refl refl goes in
-    tries_left session channel incoming asks r reply was now mounted earlier ended.ended.1 ended.leaves.0 ended.leaves.1 went
+    tries_left session channel fragments incoming asks r reply was now mounted earlier ended.ended.1 ended.leaves.0 ended.leaves.1 went
 
 -- and so after a response
-pub response_stays : (session : Session) (channel : Option ChannelState) (bytes : List ℕ) (plain : Option PlainCommand) (ending : Ending) (r : Reaction) (finished : ℕ) (reply : PlainReply) (was now : World) → IsMounted was → IsTryLeft session.run (stored.fields_of was.store)
-    → Responds session channel bytes plain ending reply was now → ending ≡ Answered r finished → IsTryLeft r.session.run (stored.fields_of now.store)
-response_stays session channel bytes plain ending r finished reply was now mounted earlier responds is =
-    try_stays session channel responds.incoming responds.asks r finished reply was now mounted earlier
-    (subst (λ (e : Ending). IsEndedByRules (state session channel) responds.incoming responds.asks e reply was now) is responds.ended)
+pub response_stays : (session : Session) (channel : Option ChannelState) (fragments : Option OpenChain) (bytes : List ℕ) (plain : Option PlainCommand) (ending : Ending) (r : Reaction) (finished : ℕ) (reply : PlainReply) (left : Option OpenChain) (was now : World) → IsMounted was → IsTryLeft session.run (stored.fields_of was.store)
+    → Responds session channel fragments bytes plain ending reply left was now → ending ≡ Answered r finished → IsTryLeft r.session.run (stored.fields_of now.store)
+response_stays session channel fragments bytes plain ending r finished reply left was now mounted earlier responds is =
+    try_stays session channel fragments responds.incoming responds.asks r finished reply left was now mounted earlier
+    (subst (λ (e : Ending). IsEndedByRules (chained fragments (state session channel)) responds.incoming responds.asks e reply left was now) is responds.ended)

@@ -1,5 +1,6 @@
 -- The sessions of the code as states.
 use Rattle.std.specs.Prelude.{Option, Some, None, option_map}
+use Rattle.eid_apdu.specs.Chaining.{OpenChain}
 use Rattle.eid_bits.specs.Template.{template_bytes}
 use Rattle.eid_pace.specs.View.{chosen_view, nonce_sent_view, mapped_view, agreed_view}
 use Rattle.eid_sm.specs.Keys.{ChannelState}
@@ -33,7 +34,7 @@ phase_of (runs.Agreed agreed) = HasSecret (agreed_view agreed)
 abbrev pub memory : LastPace → PaceMemory
 memory pace = record { password = pace.password; template = option_map template_bytes pace.template; identity = pace.identity }
 
--- the state that a session of the code is, with this channel
+-- the state that a session of the code is, with this channel, and no fragments
 abbrev pub state : Session → Option ChannelState → State
 state s channel = record {
   next = next_of s.run;
@@ -42,7 +43,12 @@ state s channel = record {
   current = option_map (λ file. file.0) s.memory.current;
   pace = option_map memory s.memory.pace;
   channel = channel;
+  chaining = None;
 }
+
+-- and with these fragments
+abbrev pub chained : Option OpenChain → State → State
+chained chaining s = record s { chaining = chaining }
 
 -- A chip with power: its store, and its state.
 pub record RunningView : Type 0 where
@@ -53,5 +59,6 @@ pub record RunningView : Type 0 where
 pub record ChipView : Type 0 where
   pub running : Option RunningView
 
-abbrev pub running_view : Running → RunningView
-running_view running = record { store = running.store; state = state running.session running.channel }
+-- the fragments stand beside it
+abbrev pub running_view : Option OpenChain → Running → RunningView
+running_view chaining running = record { store = running.store; state = chained chaining (state running.session running.channel) }

@@ -4,6 +4,7 @@
 use Rattle.std.specs.Prelude.{◌≡◌, ℕ, ◌<◌, ◌==◌, ◌||◌, true, List, [], ◌∷◌, ◌++◌, length, Option, Some, None, option_map, if◌then◌else◌}
 use Rattle.std.specs.Option.{option_or}
 use Rattle.eid_apdu.specs.Command.{PlainCommand}
+use Rattle.eid_apdu.specs.Chaining.{OpenChain}
 use Rattle.eid_apdu.specs.Answer.{PlainReply, spelled}
 use Rattle.eid_copro.specs.Seen.{CoproSeen}
 use Rattle.eid_copro.specs.declared.ask.Ask.{Ask}
@@ -23,13 +24,13 @@ use Rattle.eid_model.specs.Runs as phases
 use Rattle.eid_model.specs.Rules.{Incoming, OfCommand, plain_of, Situation, RuleRow, kind_rules, answer_rules, proof_rules, committing, concerns, first_failed, to_commit}
 use Rattle.eid_model.specs.Answers.{Outcome, outcome, question, question_of, success_of, status_alone, due, outcome_of, question_by, due_by, situation, kind_incoming, command_of}
 use Rattle.eid_model.specs.Legal.{IsReadAs, AreAsked}
-use Rattle.eid_chip.specs.Transitions.{state_answered, state_carried_out, two_messages_later, without_run}
+use Rattle.eid_chip.specs.Transitions.{state_answered, state_by_kind, state_carried_out, two_messages_later, without_run}
 use Rattle.eid_chip.specs.declared.session.Session.{Session}
 use Rattle.eid_chip.specs.declared.session.Memory.{Memory}
 use Rattle.eid_chip.specs.declared.session.Run.TheVariants as runs
 use Rattle.eid_pace.specs.States.{PlainDone}
 use Rattle.eid_pace.specs.declared.agreed.Agreed.{Agreed}
-use Rattle.eid_chip.specs.States.{state}
+use Rattle.eid_chip.specs.States.{chained, state}
 use Rattle.eid_chip.specs.declared.refusal.Refusal.{Refusal}
 use Rattle.eid_chip.specs.declared.reaction.Reaction.{Reaction}
 use Rattle.eid_chip.specs.declared.reaction.Ending.{Ending}
@@ -61,7 +62,7 @@ refusal_by rows s = option_map (λ row. record { rule = row.number; status = row
 -- a situation in which the kind is known
 abbrev pub known : Kind → FullRecord → State → PlainCommand → List Answer → Situation
 known kind kept old c answers =
-    record { incoming = OfCommand c; command = c; kind = Some kind; kept = kept; state = old; answers = answers }
+    record { incoming = OfCommand c; unbroken = true; command = c; kind = Some kind; kept = kept; state = old; answers = answers }
 
 -- what a step answered
 abbrev pub outcome_seen : Reaction → PlainReply → Outcome
@@ -86,7 +87,7 @@ pub record IsAnsweredByKind (kind : Kind) (kept : FullRecord) (old : State) (c :
     (reply : PlainReply) : Type 0 where
   pub asked : AreAsked (λ answers. question_by kind_rules (known kind kept old c answers)) [] asks
   pub ended : outcome_of kind_rules (known kind kept old c (answers_of asks)) ≡ outcome_seen reaction reply
-  pub left : state_left reaction old.channel ≡ state_due reaction.rule.0 (state_answered reaction.rule.0 (Some kind) c (answers_of asks) old)
+  pub left : state_left reaction old.channel ≡ state_due reaction.rule.0 (state_by_kind reaction.rule.0 kind c (answers_of asks) old)
 
 -- a command of a known kind put questions, by which the log grew, and was answered by them, in any channel
 pub record Stepped (before after : CoproSeen) (kind : Kind) (kept : FullRecord) (session : Session) (c : PlainCommand) (reaction : Reaction)
@@ -103,10 +104,10 @@ abbrev pub IsEnding : List PlainEffect → Outcome → Ending → PlainReply →
 IsEnding due outcome (Answered reaction finished) reply = (finished ≡ length due) × (outcome ≡ outcome_seen reaction reply)
 IsEnding due outcome (Lost finished) reply = finished < length due
 
--- the state after it, where it was answered
-abbrev pub IsNext : (ℕ → State) → Ending → Option ChannelState → Type 0
-IsNext next (Answered reaction finished) channel = state_left reaction channel ≡ state_due reaction.rule.0 (next reaction.rule.0)
-IsNext next (Lost finished) channel = Unit {0}
+-- the state after it, where it was answered: what the session is then, with these fragments
+abbrev pub IsNext : (ℕ → State) → Ending → Option ChannelState → Option OpenChain → Type 0
+IsNext next (Answered reaction finished) channel chaining = chained chaining (state_left reaction channel) ≡ state_due reaction.rule.0 (next reaction.rule.0)
+IsNext next (Lost finished) channel chaining = Unit {0}
 
 -- a command of a known kind put these questions, committed what was due, was answered by the rules of its kind and those
 -- over the answers, and left this state and this world
@@ -115,7 +116,7 @@ pub record IsEndedByKind (kind : Kind) (old : State) (c : PlainCommand) (asks : 
   pub asked : AreAsked (λ answers. question_by kind_rules (known kind (held before.cells) old c answers)) [] asks
   pub ended : IsEnding (due_by kind_rules (known kind (held before.cells) old c (answers_of asks)))
       (outcome_of kind_rules (known kind (held before.cells) old c (answers_of asks))) ending reply
-  pub next : IsNext (λ rule. state_answered rule (Some kind) c (answers_of asks) old) ending old.channel
+  pub next : IsNext (λ rule. state_by_kind rule kind c (answers_of asks) old) ending old.channel None
   pub leaves : Leaves (due_by kind_rules (known kind (held before.cells) old c (answers_of asks))) (held before.cells) ending before after
 
 -- A command of a kind that commits one effect, puts no question, proves nothing, and answers no data: no rule before its
@@ -147,6 +148,7 @@ state_with_pace old done = record {
   current = option_map (λ file. file.0) old.current;
   pace = Some (memory_of done);
   channel = Some (channel_after 0 (keys_of done));
+  chaining = None;
 }
 
 -- and so in any channel, with the questions by which the coprocessor's log grew
@@ -157,18 +159,21 @@ pub record Performed (kind : Kind) (session : Session) (c : PlainCommand) (endin
   pub layout : SameLayout before.cells after.cells
 
 -- what was incoming put these questions, committed what was due, was answered by the first failed rule, and left this state
--- and this world
-pub record IsEndedByRules (old : State) (incoming : Incoming) (asks : List Ask) (ending : Ending) (reply : PlainReply) (before after : World) : Type 0 where
+-- with these fragments, and this world
+pub record IsEndedByRules (old : State) (incoming : Incoming) (asks : List Ask) (ending : Ending) (reply : PlainReply)
+    (chaining : Option OpenChain) (before after : World) : Type 0 where
   pub asked : AreAsked (λ answers. question (situation (held before.cells) old incoming answers)) [] asks
   pub ended : IsEnding (due (situation (held before.cells) old incoming (answers_of asks)))
       (outcome (situation (held before.cells) old incoming (answers_of asks))) ending reply
-  pub next : IsNext (λ rule. state_answered rule (kind_incoming old incoming) (command_of incoming) (answers_of asks) old) ending old.channel
+  pub next : IsNext (λ rule. state_answered rule (kind_incoming old incoming) (command_of incoming) (answers_of asks) old) ending old.channel chaining
   pub leaves : Leaves (due (situation (held before.cells) old incoming (answers_of asks))) (held before.cells) ending before after
 
-pub record Reacts (session : Session) (c : PlainCommand) (ending : Ending) (reply : PlainReply) (before after : World) : Type 0 where
+-- and so a command, with these fragments before it, in any channel
+pub record Reacts (session : Session) (fragments : Option OpenChain) (c : PlainCommand) (ending : Ending) (reply : PlainReply)
+    (left : Option OpenChain) (before after : World) : Type 0 where
   pub asks : List Ask
   pub were_asked : WereAsked before.copro after.copro asks
-  pub ended : (channel : Option ChannelState) → IsEndedByRules (state session channel) (OfCommand c) asks ending reply before after
+  pub ended : (channel : Option ChannelState) → IsEndedByRules (chained fragments (state session channel)) (OfCommand c) asks ending reply left before after
   pub layout : SameLayout before.cells after.cells
 
 -- a refusal before the kind is known, or without one: it puts no question and commits nothing
@@ -179,15 +184,15 @@ pub record IsAnsweredByRules (kept : FullRecord) (old : State) (incoming : Incom
   pub left : state_left reaction old.channel ≡ state_due reaction.rule.0 (state_answered reaction.rule.0 (kind_incoming old incoming) (command_of incoming)
       (answers_of asks) old)
 
--- bytes were incoming, in a channel or without one, and the command ended so
-pub record Responds (session : Session) (channel : Option ChannelState) (bytes : List ℕ) (plain : Option PlainCommand) (ending : Ending)
-    (reply : PlainReply) (before after : World) : Type 0 where
+-- bytes were incoming, in a channel or without one, with these fragments before them, and the command ended so
+pub record Responds (session : Session) (channel : Option ChannelState) (fragments : Option OpenChain) (bytes : List ℕ)
+    (plain : Option PlainCommand) (ending : Ending) (reply : PlainReply) (left : Option OpenChain) (before after : World) : Type 0 where
   pub incoming : Incoming
   pub reads : IsReadAs channel bytes incoming
   pub is_plain : plain ≡ plain_of incoming
   pub asks : List Ask
   pub were_asked : WereAsked before.copro after.copro asks
-  pub ended : IsEndedByRules (state session channel) incoming asks ending reply before after
+  pub ended : IsEndedByRules (chained fragments (state session channel)) incoming asks ending reply left before after
   pub layout : SameLayout before.cells after.cells
 
 -- the rule that a command was answered by; 0 where it was not answered

@@ -1,15 +1,17 @@
 -- Inside: cited by private contracts alone.
 -- What one command does to the state of a chip. Legality does not speak of it: that it is what a look back over the
 -- moments finds is proved.
-use Rattle.std.specs.Prelude.{ℕ, ◌==◌, List, Option, Some, None, is_some, option_map, unwrap_or, if◌then◌else◌}
+use Rattle.std.specs.Prelude.{ℕ, ◌==◌, ◌&&◌, List, Option, Some, None, is_some, option_map, unwrap_or, if◌then◌else◌}
 use Rattle.std.specs.Option.{option_or}
 use Rattle.eid_apdu.specs.Command.{PlainCommand}
+use Rattle.eid_apdu.specs.Chaining.{OpenChain, chain_after, is_fragment, request}
+use Rattle.eid_apdu.specs.declared.chain.Fed.TheVariants.{More}
 use Rattle.eid_copro.specs.declared.ask.Answer.{Answer}
 use Rattle.eid_sm.specs.Keys.{ChannelState, next_counter}
 use Rattle.eid_model.specs.declared.kind.Kind.{Kind}
 use Rattle.eid_model.specs.Kinds.{step_after}
 use Rattle.eid_model.specs.Runs.{Idle, entered}
-use Rattle.eid_model.specs.Sessions.{State, selects, names, pace_done, memory_of, keys_of, channel_after}
+use Rattle.eid_model.specs.Sessions.{State, unchained, selects, names, pace_done, memory_of, keys_of, channel_after}
 
 -- a command and its reply raise the send sequence counter twice
 abbrev pub two_messages_later : ChannelState → ChannelState
@@ -24,6 +26,7 @@ state_carried_out kind c answers old = record {
   current = if is_some (selects kind) then None else option_or (names kind c) old.current;
   pace = option_or (option_map memory_of (pace_done kind old.phase)) old.pace;
   channel = option_or (option_map (channel_after 0) (option_map keys_of (pace_done kind old.phase))) (option_map two_messages_later old.channel);
+  chaining = None;
 }
 
 -- the state after a command that was refused, and did not end the session
@@ -35,13 +38,22 @@ state_refused old = record {
   current = old.current;
   pace = old.pace;
   channel = option_map two_messages_later old.channel;
+  chaining = None;
 }
 
--- the state after a command that was answered by this rule, with these answers of the coprocessor
-abbrev pub state_answered : ℕ → Option Kind → PlainCommand → List Answer → State → State
-state_answered rule None c answers old = state_refused old
-state_answered rule (Some kind) c answers old = if rule == 0 then state_carried_out kind c answers old else state_refused old
+-- the state after a request of this kind was answered by this rule, with these answers of the coprocessor
+abbrev pub state_by_kind : ℕ → Kind → PlainCommand → List Answer → State → State
+state_by_kind rule kind c answers old = if rule == 0 then state_carried_out kind c answers old else state_refused old
 
--- the state without a run
+-- the chain that a command without a kind leaves open: a fragment that was answered goes on with it, or begins one
+abbrev pub chaining_left : ℕ → Option OpenChain → PlainCommand → Option OpenChain
+chaining_left rule chaining c = if rule == 0 && is_fragment c then chain_after chaining c More else None
+
+-- the state after a command that was answered by this rule: a fragment, or the last command of a request of this kind
+abbrev pub state_answered : ℕ → Option Kind → PlainCommand → List Answer → State → State
+state_answered rule None c answers old = record (state_refused old) { chaining = chaining_left rule old.chaining c }
+state_answered rule (Some kind) c answers old = state_by_kind rule kind (request old.chaining c) answers (unchained old)
+
+-- the state without a run, and without fragments
 abbrev pub without_run : State → State
-without_run s = record { next = None; phase = Idle; selected = s.selected; current = s.current; pace = s.pace; channel = s.channel }
+without_run s = record { next = None; phase = Idle; selected = s.selected; current = s.current; pace = s.pace; channel = s.channel; chaining = None }

@@ -3,9 +3,11 @@ ghost use Rattle.std.specs.Prelude.{◌≡◌, ◌≢◌, ◌≤◌, ◌↔◌, 
 ghost use Rattle.std.specs.Option.{option_or};
 ghost use Rattle.arrayvec.specs.ArrayVec.{array_vec_len};
 ghost use Rattle.eid_apdu.specs.Command.{plain_command};
+ghost use Rattle.eid_apdu.specs.Chaining.{is_fragment};
 ghost use Rattle.eid_apdu.specs.Answer.{plain_reply};
 ghost use Rattle.eid_record.specs.Plain.{FullRecord};
 ghost use Rattle.eid_cells.specs.Device.{Device};
+ghost use Rattle.eid_copro.specs.Seen.{CoproSeen};
 ghost use Rattle.eid_store.specs.Durable.{Mounts};
 ghost use Rattle.eid_store.specs.Store as stored;
 ghost use Rattle.eid_store.specs.Store.{mount_cost};
@@ -16,26 +18,27 @@ ghost use Rattle.eid_model.specs.Kinds.{goes_on_in_run};
 ghost use Rattle.eid_model.specs.Legal.{silent};
 ghost use Rattle.eid_chip.specs.Commits.{MOST_MOUNTING};
 ghost use Rattle.eid_chip.specs.Held.{held};
+ghost use Rattle.eid_chip.specs.Naming.{IsLast, Passes};
 ghost use Rattle.eid_chip.specs.States.{next_of};
 ghost use Rattle.eid_chip.specs.Tries.{IsTryLeft};
 ghost use Rattle.eid_chip.specs.Worlds.{IsMounted, world};
 ghost use Rattle.eid_chip.specs.Steps.{Performed, Reacts, Responds, message_in, rule_of, sent_next};
 ghost use Rattle.eid_chip.specs.Fits.{plain_in};
 
-use crate::ending::{ends_session, refused, uncommitted};
+use crate::ending::{carried_out, ends_session, refused, uncommitted};
 use crate::exchange::{Exchange, Handled, HandledIn};
-use crate::naming::kind_of;
+use crate::naming::{Named, name_command};
 use crate::pace::{
     encrypted_nonce, map_nonce, mutual_authentication, perform_key_agreement, select_pace,
 };
 use crate::pin::{change_pin, unblock_pin};
 use crate::reaction::{Ending, Reaction, Response};
-use crate::refusal::{LONG_REQUEST, NO_COMMAND, NO_OBJECTS, NO_STEP, WRONG_OBJECTS};
+use crate::refusal::{BROKEN_CHAIN, LONG_REQUEST, NO_COMMAND, NO_OBJECTS, NO_STEP, WRONG_OBJECTS};
 use crate::running::Running;
 use crate::select::{read_binary, select_application, select_file, select_master_file};
 use crate::session::Session;
 use arrayvec::ArrayVec;
-use eid_apdu::{Command, Reply, read_command, write_reply};
+use eid_apdu::{Chain, Command, Fed, MAX_REQUEST, Reply, read_command, write_reply};
 use eid_base::Rule;
 use eid_cells::Eeprom;
 use eid_copro::Coprocessor;
@@ -44,9 +47,6 @@ use eid_sm::{Channel, Header, SmError};
 use eid_store::{MountError, Store};
 use std::marker::Model;
 use std::mem;
-
-/// The longest body of one request, in bytes.
-const MAX_REQUEST: usize = 2048;
 
 /// A command as its header, and its body on its own.
 fn apart(c: &Command<'_>, body: &mut ArrayVec<u8, MAX_BODY>) -> Header
@@ -103,9 +103,111 @@ fn perform<E: Eeprom, C: Coprocessor>(
     }
 }
 
+/// The request that ends with a command, of which this is the whole body.
+fn whole_request<'a>(c: &Command<'_>, body: &'a [u8]) -> Command<'a>
+    ensures { plain_command result ≡ record (plain_command c.now) { body = body.now } }
+{
+    Command {
+        cla: c.cla,
+        ins: c.ins,
+        p1: c.p1,
+        p2: c.p2,
+        body,
+        ne: c.ne,
+    }
+}
+
+/// Takes a fragment, and answers 9000. Rule 7 is that it does not go on with the open chain, rule 8 that the request is then
+/// too long. It ends the run.
+fn take_fragment(
+    session: Session,
+    chain: &mut Chain<MAX_REQUEST>,
+    c: &Command<'_>,
+    reply: &mut Reply,
+) -> Ending
+    requires fragment { is_fragment (plain_command c.now) ≡ true }
+    requires passes { Passes (plain_command c.now) }
+    ensures reacts { (copro : CoproSeen) (store : Store) (device : Device) (cells : List ℕ) → stored.Fits store device cells
+        → Reacts session chain.old.pending (plain_command c.now) result (plain_reply reply.new) chain.new.pending
+        (world copro store device cells) (world copro store device cells) }
+    ensures small { array_vec_len reply.new.content ≤ 2048 }
+{
+    match chain.feed(c) {
+        Fed::More => uncommitted(carried_out(session.without_run(), reply)),
+        Fed::Broken => uncommitted(refused(BROKEN_CHAIN, session, reply)),
+        Fed::TooLong => uncommitted(refused(LONG_REQUEST, session, reply)),
+        Fed::Whole => unreachable!(),
+    }
+}
+
+/// Answers the last command of a request of this kind that was begun in fragments. Rule 7 is that it does not go on with
+/// them, rule 8 that the request is too long.
+fn end_chain<E: Eeprom, C: Coprocessor>(
+    kind: Kind,
+    session: Session,
+    chain: &mut Chain<MAX_REQUEST>,
+    store: &mut Store,
+    cells: &mut E,
+    copro: &mut C,
+    c: &Command<'_>,
+    reply: &mut Reply,
+) -> Ending
+    requires mounted { IsMounted (world (C.seen copro.old) store.old (E.device cells.old) (E.cells cells.old)) }
+    requires room { 2 ≤ (C.seen copro.old).spare }
+    requires last { IsLast session.run (plain_command c.now) kind }
+    requires passes { Passes (plain_command c.now) }
+    requires try_left { IsTryLeft session.run (stored.fields_of store.old) }
+    ensures reacts { Reacts session chain.old.pending (plain_command c.now) result (plain_reply reply.new) chain.new.pending
+        (world (C.seen copro.old) store.old (E.device cells.old) (E.cells cells.old))
+        (world (C.seen copro.new) store.new (E.device cells.new) (E.cells cells.new)) }
+    ensures small { array_vec_len reply.new.content ≤ 2048 }
+{
+    match chain.feed(c) {
+        Fed::Whole => {
+            let request = whole_request(c, chain.body());
+            perform(kind, session, store, cells, copro, &request, reply)
+        }
+        Fed::Broken => uncommitted(refused(BROKEN_CHAIN, session, reply)),
+        Fed::TooLong => uncommitted(refused(LONG_REQUEST, session, reply)),
+        Fed::More => unreachable!(),
+    }
+}
+
+/// Answers the last command of a request of this kind. Where no chain is open it is the request, and nothing is copied;
+/// rule 8 is that it is too long.
+fn answer<E: Eeprom, C: Coprocessor>(
+    kind: Kind,
+    session: Session,
+    chain: &mut Chain<MAX_REQUEST>,
+    store: &mut Store,
+    cells: &mut E,
+    copro: &mut C,
+    c: &Command<'_>,
+    reply: &mut Reply,
+) -> Ending
+    requires mounted { IsMounted (world (C.seen copro.old) store.old (E.device cells.old) (E.cells cells.old)) }
+    requires room { 2 ≤ (C.seen copro.old).spare }
+    requires last { IsLast session.run (plain_command c.now) kind }
+    requires passes { Passes (plain_command c.now) }
+    requires try_left { IsTryLeft session.run (stored.fields_of store.old) }
+    ensures reacts { Reacts session chain.old.pending (plain_command c.now) result (plain_reply reply.new) chain.new.pending
+        (world (C.seen copro.old) store.old (E.device cells.old) (E.cells cells.old))
+        (world (C.seen copro.new) store.new (E.device cells.new) (E.cells cells.new)) }
+    ensures small { array_vec_len reply.new.content ≤ 2048 }
+{
+    if chain.is_open() {
+        return end_chain(kind, session, chain, store, cells, copro, c, reply);
+    }
+    if c.body.len() > MAX_REQUEST {
+        return uncommitted(refused(LONG_REQUEST, session, reply));
+    }
+    perform(kind, session, store, cells, copro, c, reply)
+}
+
 /// Carries a command out, or refuses it by the first failed rule.
 fn react<E: Eeprom, C: Coprocessor>(
     session: Session,
+    chain: &mut Chain<MAX_REQUEST>,
     store: &mut Store,
     cells: &mut E,
     copro: &mut C,
@@ -115,25 +217,27 @@ fn react<E: Eeprom, C: Coprocessor>(
     requires mounted { IsMounted (world (C.seen copro.old) store.old (E.device cells.old) (E.cells cells.old)) }
     requires room { 2 ≤ (C.seen copro.old).spare }
     requires try_left { IsTryLeft session.run (stored.fields_of store.old) }
-    ensures reacts { Reacts session (plain_command c.now) result (plain_reply reply.new)
+    ensures reacts { Reacts session chain.old.pending (plain_command c.now) result (plain_reply reply.new) chain.new.pending
         (world (C.seen copro.old) store.old (E.device cells.old) (E.cells cells.old))
         (world (C.seen copro.new) store.new (E.device cells.new) (E.cells cells.new)) }
     ensures small { array_vec_len reply.new.content ≤ 2048 }
 {
-    let kind = match kind_of(c, &session.run) {
-        Ok(kind) => kind,
-        Err(refusal) => return uncommitted(refused(refusal, session, reply)),
-    };
-    if c.body.len() > MAX_REQUEST {
-        return uncommitted(refused(LONG_REQUEST, session, reply));
+    match name_command(c, &session.run) {
+        Ok(Named::Fragment) => take_fragment(session, chain, c, reply),
+        Ok(Named::Last(kind)) => answer(kind, session, chain, store, cells, copro, c, reply),
+        Err(refusal) => {
+            chain.close();
+            uncommitted(refused(refusal, session, reply))
+        }
     }
-    perform(kind, session, store, cells, copro, c, reply)
 }
 
-/// The response to bytes in which no command was read.
-fn without_command(reaction: Reaction) -> Response
-    ensures { (result.plain ≡ None) × (result.ending ≡ Ending.Answered reaction 0) }
+/// The response to bytes in which no command was read. No chain is open behind it.
+fn without_command(reaction: Reaction, chain: &mut Chain<MAX_REQUEST>) -> Response
+    ensures response { (result.plain ≡ None) × (result.ending ≡ Ending.Answered reaction 0) }
+    ensures closed { chain.new.pending ≡ None }
 {
+    chain.close();
     Response {
         plain: None,
         ending: uncommitted(reaction),
@@ -143,6 +247,7 @@ fn without_command(reaction: Reaction) -> Response
 /// Reads the bytes of a command without a channel, and answers them.
 fn respond<E: Eeprom, C: Coprocessor>(
     session: Session,
+    chain: &mut Chain<MAX_REQUEST>,
     store: &mut Store,
     cells: &mut E,
     copro: &mut C,
@@ -152,20 +257,21 @@ fn respond<E: Eeprom, C: Coprocessor>(
     requires mounted { IsMounted (world (C.seen copro.old) store.old (E.device cells.old) (E.cells cells.old)) }
     requires room { 2 ≤ (C.seen copro.old).spare }
     requires try_left { IsTryLeft session.run (stored.fields_of store.old) }
-    ensures responds { Responds session None bytes.now (plain_in exchange.new result.plain) result.ending (plain_reply exchange.new.reply)
+    ensures responds { Responds session None chain.old.pending bytes.now (plain_in exchange.new result.plain) result.ending
+        (plain_reply exchange.new.reply) chain.new.pending
         (world (C.seen copro.old) store.old (E.device cells.old) (E.cells cells.old))
         (world (C.seen copro.new) store.new (E.device cells.new) (E.cells cells.new)) }
     ensures small { array_vec_len exchange.new.reply.content ≤ 2048 }
 {
     let Ok(c) = read_command(bytes) else {
-        return without_command(refused(NO_COMMAND, session, &mut exchange.reply));
+        return without_command(refused(NO_COMMAND, session, &mut exchange.reply), chain);
     };
     if c.body.len() > MAX_BODY {
-        return without_command(refused(NO_COMMAND, session, &mut exchange.reply));
+        return without_command(refused(NO_COMMAND, session, &mut exchange.reply), chain);
     }
     Response {
         plain: Some(apart(&c, &mut exchange.body)),
-        ending: react(session, store, cells, copro, &c, &mut exchange.reply),
+        ending: react(session, chain, store, cells, copro, &c, &mut exchange.reply),
     }
 }
 
@@ -173,6 +279,7 @@ fn respond<E: Eeprom, C: Coprocessor>(
 fn respond_in<E: Eeprom, C: Coprocessor>(
     channel: &mut Channel,
     session: Session,
+    chain: &mut Chain<MAX_REQUEST>,
     store: &mut Store,
     cells: &mut E,
     copro: &mut C,
@@ -182,7 +289,8 @@ fn respond_in<E: Eeprom, C: Coprocessor>(
     requires mounted { IsMounted (world (C.seen copro.old) store.old (E.device cells.old) (E.cells cells.old)) }
     requires room { 2 ≤ (C.seen copro.old).spare }
     requires try_left { IsTryLeft session.run (stored.fields_of store.old) }
-    ensures responds { Responds session (Some channel.old) bytes.now (plain_in exchange.new result.plain) result.ending (plain_reply exchange.new.reply)
+    ensures responds { Responds session (Some channel.old) chain.old.pending bytes.now (plain_in exchange.new result.plain) result.ending
+        (plain_reply exchange.new.reply) chain.new.pending
         (world (C.seen copro.old) store.old (E.device cells.old) (E.cells cells.old))
         (world (C.seen copro.new) store.new (E.device cells.new) (E.cells cells.new)) }
     ensures channel { Some channel.new ≡ message_in (rule_of result.ending) (Some channel.old) }
@@ -191,16 +299,18 @@ fn respond_in<E: Eeprom, C: Coprocessor>(
     let header = match channel.unwrap(bytes, &mut exchange.body) {
         Ok(header) => header,
         Err(SmError::Missing) => {
-            return without_command(refused(NO_OBJECTS, session, &mut exchange.reply));
+            let reaction = refused(NO_OBJECTS, session, &mut exchange.reply);
+            return without_command(reaction, chain);
         }
         Err(SmError::Wrong) => {
-            return without_command(refused(WRONG_OBJECTS, session, &mut exchange.reply));
+            let reaction = refused(WRONG_OBJECTS, session, &mut exchange.reply);
+            return without_command(reaction, chain);
         }
     };
     let c = header.with_body(exchange.body.as_slice());
     Response {
         plain: Some(header),
-        ending: react(session, store, cells, copro, &c, &mut exchange.reply),
+        ending: react(session, chain, store, cells, copro, &c, &mut exchange.reply),
     }
 }
 
@@ -208,6 +318,7 @@ fn respond_in<E: Eeprom, C: Coprocessor>(
 fn respond_any<E: Eeprom, C: Coprocessor>(
     channel: &mut Option<Channel>,
     session: Session,
+    chain: &mut Chain<MAX_REQUEST>,
     store: &mut Store,
     cells: &mut E,
     copro: &mut C,
@@ -217,15 +328,20 @@ fn respond_any<E: Eeprom, C: Coprocessor>(
     requires mounted { IsMounted (world (C.seen copro.old) store.old (E.device cells.old) (E.cells cells.old)) }
     requires room { 2 ≤ (C.seen copro.old).spare }
     requires try_left { IsTryLeft session.run (stored.fields_of store.old) }
-    ensures responds { Responds session channel.old bytes.now (plain_in exchange.new result.plain) result.ending (plain_reply exchange.new.reply)
+    ensures responds { Responds session channel.old chain.old.pending bytes.now (plain_in exchange.new result.plain) result.ending
+        (plain_reply exchange.new.reply) chain.new.pending
         (world (C.seen copro.old) store.old (E.device cells.old) (E.cells cells.old))
         (world (C.seen copro.new) store.new (E.device cells.new) (E.cells cells.new)) }
     ensures channel { channel.new ≡ message_in (rule_of result.ending) channel.old }
     ensures small { array_vec_len exchange.new.reply.content ≤ 2048 }
 {
     match channel {
-        None => respond(session, store, cells, copro, bytes, exchange),
-        Some(channel) => respond_in(channel, session, store, cells, copro, bytes, exchange),
+        None => respond(session, chain, store, cells, copro, bytes, exchange),
+        Some(channel) => {
+            respond_in(
+                channel, session, chain, store, cells, copro, bytes, exchange,
+            )
+        }
     }
 }
 
@@ -288,10 +404,12 @@ fn go_on(
     }
 }
 
-/// A chip. Where it has power it has the store that it mounted and a session.
+/// A chip. Where it has power it has the store that it mounted and a session; beside them stands the body of a request that is
+/// sent in fragments.
 #[derive(Drop)]
 pub struct Chip {
     running: Option<Running>,
+    chain: Chain<MAX_REQUEST>,
 }
 
 impl Model for Chip {
@@ -300,7 +418,7 @@ impl Model for Chip {
 
     ghost Value = { ChipView };
 
-    ghost view = { λ chip. record { running = option_map running_view chip.running } };
+    ghost view = { λ chip. record { running = option_map (running_view chip.chain.pending) chip.running } };
 }
 
 impl Chip {
@@ -312,7 +430,10 @@ impl Chip {
         ensures fits { (device : Device) (cells : List ℕ) (opening : FullRecord) → stands cells ≡ Some opening
             → Fits (scene result device cells) opening [] }
     {
-        Chip { running: None }
+        Chip {
+            running: None,
+            chain: Chain::new(),
+        }
     }
 
     /// Gives the device power and mounts the record that its cells stand for. The chip begins without a
@@ -341,6 +462,7 @@ impl Chip {
         match Store::mount(cells) {
             Ok(store) => {
                 let number = store.kept().number;
+                self.chain.close();
                 self.running = Some(Running {
                     store,
                     session: Session::new(),
@@ -412,6 +534,7 @@ impl Chip {
         let Response { plain, ending } = respond_any(
             &mut channel,
             session,
+            &mut self.chain,
             &mut store,
             cells,
             copro,

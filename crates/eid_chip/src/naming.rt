@@ -1,38 +1,48 @@
-//! The kind of a command, by class, instruction and parameters, and where the run stands.
+//! What a command is, by class, instruction and parameters, and where the run stands: a fragment, or the last command of a
+//! request of some kind.
 ghost use Rattle.std.specs.Prelude.{◌≡◌, true};
 ghost use Rattle.eid_apdu.specs.Command.{plain_command};
 ghost use Rattle.eid_model.specs.Kinds.{goes_on_in_run, kind_named};
 ghost use Rattle.eid_chip.specs.States.{next_of};
-ghost use Rattle.eid_chip.specs.Naming.{IsKindOf};
+ghost use Rattle.eid_chip.specs.Naming.{IsNamed};
 
 use crate::refusal::{CLASS, INSTRUCTION, PARAMETERS, Refusal};
 use crate::session::Run;
 use eid_apdu::Command;
 use eid_model::Kind;
 
+/// What a command is of its request.
+#[derive(Clone, Copy)]
+pub enum Named {
+    /// A fragment: further commands of the request follow.
+    Fragment,
+    /// The last command of a request of this kind, or its only one.
+    Last(Kind),
+}
+
 /// The kind of a SELECT, by its parameters.
-fn selection(c: &Command<'_>, run: &Run) -> Result<Kind, Refusal>
+fn selection(c: &Command<'_>, run: &Run) -> Result<Named, Refusal>
     requires { (c.now.cla ≡ 0x00) × (c.now.ins ≡ 0xA4) }
-    ensures kind { IsKindOf run.now (plain_command c.now) result }
+    ensures named { IsNamed run.now (plain_command c.now) result }
 {
     let _ = run;
     match u16::from(c.p1) * 256 + u16::from(c.p2) {
-        0x040c => Ok(Kind::SelectApplication),
-        0x000c => Ok(Kind::SelectMasterFile),
-        0x020c => Ok(Kind::SelectFile),
+        0x040c => Ok(Named::Last(Kind::SelectApplication)),
+        0x000c => Ok(Named::Last(Kind::SelectMasterFile)),
+        0x020c => Ok(Named::Last(Kind::SelectFile)),
         _ => Err(PARAMETERS),
     }
 }
 
 /// The kind of a RESET RETRY COUNTER, by its parameters.
-fn pin_management(c: &Command<'_>, run: &Run) -> Result<Kind, Refusal>
+fn pin_management(c: &Command<'_>, run: &Run) -> Result<Named, Refusal>
     requires { (c.now.cla ≡ 0x00) × (c.now.ins ≡ 0x2C) }
-    ensures kind { IsKindOf run.now (plain_command c.now) result }
+    ensures named { IsNamed run.now (plain_command c.now) result }
 {
     let _ = run;
     match u16::from(c.p1) * 256 + u16::from(c.p2) {
-        0x0203 => Ok(Kind::ChangePin),
-        0x0303 => Ok(Kind::UnblockPin),
+        0x0203 => Ok(Named::Last(Kind::ChangePin)),
+        0x0303 => Ok(Named::Last(Kind::UnblockPin)),
         _ => Err(PARAMETERS),
     }
 }
@@ -69,56 +79,76 @@ fn inner_step(c: &Command<'_>, run: &Run) -> Kind
     }
 }
 
-/// The kind of a command of class 10, in which GENERAL AUTHENTICATE says that more steps follow.
-fn chained_kind(c: &Command<'_>, run: &Run) -> Result<Kind, Refusal>
-    requires { c.now.cla ≡ 0x10 }
-    ensures kind { IsKindOf run.now (plain_command c.now) result }
+/// A fragment of MSE:Set AT for PACE, by its parameters.
+fn fragment(c: &Command<'_>, run: &Run) -> Result<Named, Refusal>
+    requires { (c.now.cla ≡ 0x10) × (c.now.ins ≡ 0x22) }
+    ensures named { IsNamed run.now (plain_command c.now) result }
 {
-    if c.ins != 0x86 {
-        return Err(INSTRUCTION);
+    let _ = run;
+    if c.p1 != 0xc1 || c.p2 != 0xa4 {
+        return Err(PARAMETERS);
     }
+    Ok(Named::Fragment)
+}
+
+/// A GENERAL AUTHENTICATE of class 10, by its parameters.
+fn chained_step(c: &Command<'_>, run: &Run) -> Result<Named, Refusal>
+    requires { (c.now.cla ≡ 0x10) × (c.now.ins ≡ 0x86) }
+    ensures named { IsNamed run.now (plain_command c.now) result }
+{
     if c.p1 != 0 || c.p2 != 0 {
         return Err(PARAMETERS);
     }
-    Ok(inner_step(c, run))
+    Ok(Named::Last(inner_step(c, run)))
+}
+
+/// A command of class 10: a fragment, or a GENERAL AUTHENTICATE that more steps follow.
+fn chained(c: &Command<'_>, run: &Run) -> Result<Named, Refusal>
+    requires { c.now.cla ≡ 0x10 }
+    ensures named { IsNamed run.now (plain_command c.now) result }
+{
+    match c.ins {
+        0x22 => fragment(c, run),
+        0x86 => chained_step(c, run),
+        _ => Err(INSTRUCTION),
+    }
 }
 
 /// The kind of a GENERAL AUTHENTICATE of class 00.
-fn unchained_step(c: &Command<'_>, run: &Run) -> Result<Kind, Refusal>
+fn unchained_step(c: &Command<'_>, run: &Run) -> Result<Named, Refusal>
     requires { (c.now.cla ≡ 0x00) × (c.now.ins ≡ 0x86) }
-    ensures kind { IsKindOf run.now (plain_command c.now) result }
+    ensures named { IsNamed run.now (plain_command c.now) result }
 {
     if c.p1 != 0 || c.p2 != 0 {
         return Err(PARAMETERS);
     }
-    Ok(last_step(c, run))
+    Ok(Named::Last(last_step(c, run)))
 }
 
 /// The kind of a command of class 00.
-fn plain_kind(c: &Command<'_>, run: &Run) -> Result<Kind, Refusal>
+fn plain_kind(c: &Command<'_>, run: &Run) -> Result<Named, Refusal>
     requires { c.now.cla ≡ 0x00 }
-    ensures kind { IsKindOf run.now (plain_command c.now) result }
+    ensures named { IsNamed run.now (plain_command c.now) result }
 {
     match c.ins {
-        0x22 if c.p1 == 0xc1 && c.p2 == 0xa4 => Ok(Kind::SelectPace),
+        0x22 if c.p1 == 0xc1 && c.p2 == 0xa4 => Ok(Named::Last(Kind::SelectPace)),
         0x22 => Err(PARAMETERS),
         0x2c => pin_management(c, run),
         0x86 => unchained_step(c, run),
         0xa4 => selection(c, run),
-        0xb0 if c.p1 < 0xa0 => Ok(Kind::ReadBinary),
+        0xb0 if c.p1 < 0xa0 => Ok(Named::Last(Kind::ReadBinary)),
         0xb0 => Err(PARAMETERS),
         _ => Err(INSTRUCTION),
     }
 }
 
-/// The kind of a command where the run stands there, or the first refusal of its class, instruction or
-/// parameters.
-pub fn kind_of(c: &Command<'_>, run: &Run) -> Result<Kind, Refusal>
-    ensures kind { IsKindOf run.now (plain_command c.now) result }
+/// What a command is where the run stands there, or the first refusal of its class, instruction or parameters.
+pub fn name_command(c: &Command<'_>, run: &Run) -> Result<Named, Refusal>
+    ensures named { IsNamed run.now (plain_command c.now) result }
 {
     match c.cla {
         0x00 => plain_kind(c, run),
-        0x10 => chained_kind(c, run),
+        0x10 => chained(c, run),
         0x80 => Err(INSTRUCTION),
         _ => Err(CLASS),
     }

@@ -42,6 +42,11 @@ pub const PARAMETERS: Refusal = Refusal {
     rule: Rule(6),
     status: Status(0x6A86),
 };
+/// The command has another instruction or other parameters than the fragments before it.
+pub const BROKEN_CHAIN: Refusal = Refusal {
+    rule: Rule(7),
+    status: Status(0x6883),
+};
 /// The body of the request is too long.
 pub const LONG_REQUEST: Refusal = Refusal {
     rule: Rule(8),

@@ -84,9 +84,9 @@ tried_at true true false c p e = absurd (cc)
 tried_at true false tries c p e = absurd (cc)
 tried_at false starts tries c p e = absurd (cc)
 
--- PACE with the PIN began only where a try was left: that is the rule behind thirteen others
+-- PACE with the PIN began only where a try was left: that is the rule behind fourteen others
 pub try_held : (s : Situation) → s.kind ≡ Some EncryptedNonce → is_compared (outcome s).rule ≡ true → starts_pin s.state.phase ≡ true
     → has_try s.kept.fields ≡ true
 try_held s kind e starts =
     tried_at (concerns (EncryptedNonce ∷ []) s.kind) (starts_pin s.state.phase) (has_try s.kept.fields) (ap (concerns (EncryptedNonce ∷ [])) kind) starts
-    (each_holds 13 rules_unproved s (unproved_hold s e).0)
+    (each_holds 14 rules_unproved s (unproved_hold s e).0)

@@ -1,10 +1,12 @@
 -- The laws of the tries of the PIN.
 use Rattle.std.proofs.Common.{◌≡◌, ℕ, ◌+◌, ◌-◌, ◌≤◌, Bool, true, false, ◌==◌, ◌&&◌, not, List, [], ◌∷◌, ◌++◌, length, take, Option, Some, None, refl, sym, ap, ◌∙◌, subst, arith, append_assoc, inl, inr}
-use Rattle.std.specs.Prelude.{◌⊎◌, is_some, option_and_then, if◌then◌else◌}
+use Rattle.std.specs.Prelude.{◌⊎◌, is_some, option_map, option_and_then, if◌then◌else◌}
 use Rattle.std.proofs.lemmas.Bool.{and_parts, or_parts, not-false, leb-true, eqb-true}
 use Rattle.std.proofs.lemmas.List.{take_all, append_cancel_right}
 use Rattle.std.proofs.lemmas.List.Folds.{list_any-append}
 use Rattle.eid_apdu.specs.Command.{PlainCommand}
+use Rattle.eid_apdu.specs.Chaining.{request}
+use Rattle.eid_model.specs.Chains.{chaining, request_of}
 use Rattle.eid_apdu.specs.Answer.{PlainReply}
 use Rattle.eid_copro.specs.declared.ask.Answer.{Answer}
 use Rattle.eid_copro.specs.declared.ask.Answer.TheVariants.{Nonce, Pair, Mapped, Shared}
@@ -67,7 +69,8 @@ rule_so : (opening : FullRecord) (before : List PlainMoment) (m : PlainMoment) (
 rule_so opening before m a = ap (λ (x : PlainMoment). x.rule) a.moment
 
 kind_of : (opening : FullRecord) (before : List PlainMoment) (incoming : Incoming)
-    → option_and_then (kind_named (next (run (live before)))) (plain_of incoming) ≡ kind_incoming (state_of opening before) incoming
+    → option_and_then (kind_named (next (run (live before)))) (option_map (request (chaining (live before))) (plain_of incoming))
+    ≡ kind_incoming (state_of opening before) incoming
 kind_of opening before NoCommand = refl
 kind_of opening before MissingObjects = refl
 kind_of opening before WrongObjects = refl
@@ -75,7 +78,8 @@ kind_of opening before (OfCommand c) = refl
 
 kind_so : (opening : FullRecord) (before : List PlainMoment) (m : PlainMoment) (a : IsAnswered opening before m) → kind_sent m before ≡ (at opening before a.incoming m).kind
 kind_so opening before m a =
-    ap (λ (c : Option PlainCommand). option_and_then (kind_named (next (run (live before)))) c) (plain_so opening before m a) ∙ kind_of opening before a.incoming
+    ap (λ (c : Option PlainCommand). option_and_then (kind_named (next (run (live before)))) (option_map (request (chaining (live before))) c))
+    (plain_so opening before m a) ∙ kind_of opening before a.incoming
 
 -- all effects due are in the ledger
 ledger_so : (opening : FullRecord) (before : List PlainMoment) (m : PlainMoment) (a : IsAnswered opening before m)
@@ -237,16 +241,17 @@ record WentOn (before : List PlainMoment) (m : PlainMoment) : Type 0 where
   sent : kind_sent m before ≡ Some kind
   goes : GoesOn kind (phase (run (live before)))
 
-went_on : (before : List PlainMoment) (m : PlainMoment) (done : Option Kind) (plain : Option PlainCommand) → kind_done (next (run (live before))) m ≡ done → m.plain ≡ plain
-    → goes_on_with_pin (phase (continued done plain (answers_of m.asks) (run (live before)))) ≡ true → WentOn before m
-went_on before m None plain none is e = absurd (cc)
+went_on : (before : List PlainMoment) (m : PlainMoment) (done : Option Kind) (whole : Option PlainCommand)
+    → kind_done (next (run (live before))) m (live before) ≡ done → request_of m (live before) ≡ whole
+    → goes_on_with_pin (phase (continued done whole (answers_of m.asks) (run (live before)))) ≡ true → WentOn before m
+went_on before m None whole none is e = absurd (cc)
 went_on before m (Some kind) None some is e = absurd (cc)
 went_on before m (Some kind) (Some c) some is e = by (succeeded m) refl where
   by : (b : Bool) → succeeded m ≡ b → WentOn before m
   by true b =
       let both = and_parts (is_some m.answer) (m.rule == 0) b in
       record { kind = kind; carried_out = eqb-true m.rule 0 both.1; sent = rw b at some; goes = goes_by kind c (answers_of m.asks) (run (live before)) e }
-  by false b = absurd (let none : kind_done (next (run (live before))) m ≡ None = rw b refl in cc)
+  by false b = absurd (let none : kind_done (next (run (live before))) m (live before) ≡ None = rw b refl in cc)
 
 abbrev tries_at : FullRecord → List PlainMoment → ℕ
 tries_at opening moments = tries_after opening.fields.tries (ledger opening moments)
@@ -291,7 +296,7 @@ try_left opening (m ∷ before) legal e = by (ends_session m) refl (try_left ope
   by true b earlier = absurd (let none : goes_on_with_pin (phase (run (live (m ∷ before)))) ≡ false = rw b refl in cc)
   by false b earlier =
       left_more opening before m (answered_for m.input opening before m refl legal.0 (goes_answered m b))
-      (went_on before m (kind_done (next (run (live before))) m) m.plain refl refl (rw b at e)) earlier
+      (went_on before m (kind_done (next (run (live before))) m (live before)) (request_of m (live before)) refl refl (rw b at e)) earlier
 
 -- ---- at most three wrong tokens
 

@@ -1,6 +1,7 @@
 -- How a command is answered (ISO/IEC 7816-4, BSI TR-03110-3).
 use Rattle.std.specs.Prelude.{ℕ, ◌==◌, ◌&&◌, ◌||◌, not, nat_lt, List, [], ◌∷◌, ◌++◌, length, take, drop, Option, Some, None, is_none, unwrap_or, if◌then◌else◌}
 use Rattle.eid_apdu.specs.Command.{PlainCommand}
+use Rattle.eid_apdu.specs.Chaining.{OpenChain, continues, request}
 use Rattle.eid_apdu.specs.Answer.{PlainReply}
 use Rattle.eid_tlv.specs.Objects.{object}
 use Rattle.eid_copro.specs.declared.ask.Question.{Question}
@@ -17,7 +18,7 @@ use Rattle.eid_model.specs.declared.kind.Kind.TheVariants.{SelectApplication, Se
 use Rattle.eid_model.specs.Bodies.{data_in, authentication_data}
 use Rattle.eid_model.specs.Kinds.{kind_named}
 use Rattle.eid_model.specs.Runs.{Phase, Chose, SentNonce, HasBase, HasSecret, choice_in}
-use Rattle.eid_model.specs.Sessions.{State}
+use Rattle.eid_model.specs.Sessions.{State, unchained}
 use Rattle.eid_model.specs.Rules.{Incoming, OfCommand, Situation, RuleRow, transport_rules, naming_rules, request_rules, kind_rules, answer_rules, commit_rules, proof_rules, first_failed, to_commit, bytes_of_file, file_meant, offset_meant}
 
 abbrev pub status_alone : ℕ → PlainReply
@@ -77,6 +78,7 @@ success_of ChangePin s = status_alone 0x9000
 success_of UnblockPin s = status_alone 0x9000
 success_of NoStep s = status_alone 0x9000
 
+-- the answer to a command of this kind, or to a fragment
 abbrev pub success : Option Kind → Situation → PlainReply
 success None s = status_alone 0x9000
 success (Some kind) s = success_of kind s
@@ -90,18 +92,35 @@ abbrev pub outcome_by : Option RuleRow → Situation → Outcome
 outcome_by None s = record { rule = 0; reply = success s.kind s }
 outcome_by (Some row) s = record { rule = row.number; reply = status_alone (row.status s) }
 
+-- what stands for a command where there is none
+abbrev pub no_command : PlainCommand
+no_command = record { cla = 0; ins = 0; p1 = 0; p2 = 0; body = []; ne = 0 }
+
 -- the command of what was incoming, where there is one
 abbrev pub command_of : Incoming → PlainCommand
 command_of (OfCommand c) = c
-command_of incoming = record { cla = 0; ins = 0; p1 = 0; p2 = 0; body = []; ne = 0 }
+command_of incoming = no_command
 
+-- the kind of the request that ends with what was incoming
 abbrev pub kind_incoming : State → Incoming → Option Kind
-kind_incoming state (OfCommand c) = kind_named state.next c
+kind_incoming state (OfCommand c) = kind_named state.next (request state.chaining c)
 kind_incoming state incoming = None
 
+-- what was incoming, as the request that it goes on with
+abbrev pub as_request : Option OpenChain → Incoming → Incoming
+as_request chain (OfCommand c) = OfCommand (request chain c)
+as_request chain incoming = incoming
+
 abbrev pub situation : FullRecord → State → Incoming → List Answer → Situation
-situation kept state incoming answers =
-    record { incoming = incoming; command = command_of incoming; kind = kind_incoming state incoming; kept = kept; state = state; answers = answers }
+situation kept state incoming answers = record {
+  incoming = as_request state.chaining incoming;
+  unbroken = continues state.chaining (command_of incoming);
+  command = request state.chaining (command_of incoming);
+  kind = kind_incoming state incoming;
+  kept = kept;
+  state = unchained state;
+  answers = answers;
+}
 
 -- ---- questions
 

@@ -3,6 +3,7 @@
 use Rattle.std.specs.Prelude.{ℕ, ◌+◌, ◌*◌, ◌-◌, Bool, true, false, ◌==◌, ◌&&◌, nat_lt, nat_le, List, [], ◌∷◌, Option, Some, None, option_map, if◌then◌else◌, find}
 use Rattle.std.specs.List.{list_any}
 use Rattle.eid_apdu.specs.Command.{PlainCommand}
+use Rattle.eid_apdu.specs.Chaining.{is_fragment}
 use Rattle.eid_model.specs.declared.kind.Kind.{Kind}
 use Rattle.eid_model.specs.declared.kind.Kind.TheVariants.{SelectApplication, SelectMasterFile, SelectFile, ReadBinary, SelectPace, EncryptedNonce, MapNonce, PerformKeyAgreement, MutualAuthentication, ChangePin, UnblockPin, NoStep}
 
@@ -55,7 +56,7 @@ kinds =
     record { kind = SelectMasterFile; classes = 0x00 ∷ []; instruction = 0xA4; parameters = λ p. p == 0x000C; comes = in_any_run } ∷
     record { kind = SelectFile; classes = 0x00 ∷ []; instruction = 0xA4; parameters = λ p. p == 0x020C; comes = in_any_run } ∷
     record { kind = ReadBinary; classes = 0x00 ∷ []; instruction = 0xB0; parameters = λ p. nat_lt p 0xA000; comes = in_any_run } ∷
-    record { kind = SelectPace; classes = 0x00 ∷ []; instruction = 0x22; parameters = λ p. p == 0xC1A4; comes = in_any_run } ∷
+    record { kind = SelectPace; classes = 0x00 ∷ 0x10 ∷ []; instruction = 0x22; parameters = λ p. p == 0xC1A4; comes = in_any_run } ∷
     record { kind = EncryptedNonce; classes = 0x10 ∷ []; instruction = 0x86; parameters = λ p. p == 0; comes = in_turn EncryptedNonce } ∷
     record { kind = MapNonce; classes = 0x10 ∷ []; instruction = 0x86; parameters = λ p. p == 0; comes = in_turn MapNonce } ∷
     record { kind = PerformKeyAgreement; classes = 0x10 ∷ []; instruction = 0x86; parameters = λ p. p == 0; comes = in_turn PerformKeyAgreement } ∷
@@ -73,9 +74,13 @@ has_instruction c row = list_any (λ class. class == c.cla) row.classes && row.i
 abbrev pub has_parameters : PlainCommand → KindRow → Bool
 has_parameters c row = has_instruction c row && row.parameters (p1p2 c)
 
--- the kind of a command, where this step comes next in the run
+-- the kind of a request, where this step comes next in the run
+abbrev pub kind_in_table : Option Kind → PlainCommand → Option Kind
+kind_in_table next c = option_map (λ row. row.kind) (find (λ row. has_parameters c row && row.comes next) kinds)
+
+-- a fragment has none: it is the closing command that makes the request one of a kind
 abbrev pub kind_named : Option Kind → PlainCommand → Option Kind
-kind_named next c = option_map (λ row. row.kind) (find (λ row. has_parameters c row && row.comes next) kinds)
+kind_named next c = if is_fragment c then None else kind_in_table next c
 
 -- the step that comes behind a command of this kind, in its run
 abbrev pub step_after : Kind → Option Kind

@@ -8,12 +8,13 @@ use Rattle.eid_model.specs.declared.kind.Kind.{Kind}
 use Rattle.eid_model.specs.declared.kind.Kind.TheVariants.{MutualAuthentication}
 use Rattle.eid_model.specs.Kinds.{same_kind, kind_named}
 use Rattle.eid_model.specs.Moments.{PlainMoment, live}
+use Rattle.eid_model.specs.Chains.{request_of}
 use Rattle.eid_model.specs.Runs.{run, next, Phase, Idle, Chose, SentNonce, HasBase, HasSecret, phase}
 use Rattle.eid_model.specs.Rules.{proves_pin}
 
--- the kind of the command that came at the newest moment, whether it was carried out or not
+-- the kind of the request that ended with the newest moment, whether it was carried out or not
 abbrev pub kind_sent : PlainMoment → List PlainMoment → Option Kind
-kind_sent m before = option_and_then (kind_named (next (run (live before)))) m.plain
+kind_sent m before = option_and_then (kind_named (next (run (live before)))) (request_of m (live before))
 
 -- the last step of PACE, at which the tokens are exchanged
 abbrev pub is_last_step : Option Kind → Bool

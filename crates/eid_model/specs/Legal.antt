@@ -79,7 +79,7 @@ lost_in bytes incoming asks finished =
 abbrev pub situation_after : FullRecord → List PlainMoment → Incoming → List Answer → Situation
 situation_after opening before incoming answers = situation (kept opening before) (state_of opening before) incoming answers
 
--- A chip with power puts the questions of what it incoming, and commits the effects that are due: all of them, and then it
+-- A chip with power puts the questions of what was incoming, and commits the effects that are due: all of them, and then it
 -- answers by the first failed rule; or fewer, and the power is cut in the next commit.
 abbrev pub IsMoment : Option PlainReply → Option ChannelState → List ℕ → Incoming → List PlainEffect → Outcome → PlainMoment → Type 0
 IsMoment (Some reply) ch bytes incoming due outcome m = m ≡ answered ch bytes incoming m.asks (length due) outcome

@@ -1,5 +1,6 @@
 pub mod Kinds
 pub mod Moments
+pub mod Chains
 pub mod Bodies
 pub mod Runs
 pub mod Sessions

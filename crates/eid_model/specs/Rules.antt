@@ -5,6 +5,7 @@ use Rattle.std.specs.Prelude.{ℕ, ◌+◌, ◌*◌, ◌-◌, Bool, true, false,
 use Rattle.std.specs.List.{list_all, list_any}
 use Rattle.std.specs.Str.{bytes_eq}
 use Rattle.eid_apdu.specs.Command.{PlainCommand}
+use Rattle.eid_apdu.specs.Chaining.{MAX_REQUEST}
 use Rattle.eid_record.specs.Plain.{FullRecord, PlainRecord, PlainEffect, Spend, Refill, SetPin, Unblock}
 use Rattle.eid_record.specs.Effect.{applied}
 use Rattle.eid_record.specs.Reading.{is_ascii_digit}
@@ -35,14 +36,21 @@ abbrev pub plain_of : Incoming → Option PlainCommand
 plain_of (OfCommand c) = Some c
 plain_of incoming = None
 
--- Where a command is answered: what was incoming, the command, its kind, the record kept, the state of the session,
--- and what the coprocessor has answered so far.
+-- Where a command is answered.
 pub record Situation : Type 0 where
+  -- what was incoming
   pub incoming : Incoming
+  -- no chain of fragments is open, or the command goes on with it
+  pub unbroken : Bool
+  -- the request so far: the command, with the bodies of the fragments before it in front of its own
   pub command : PlainCommand
+  -- the kind of the request; none while it is not whole
   pub kind : Option Kind
+  -- the record kept
   pub kept : FullRecord
+  -- the state of the session
   pub state : State
+  -- what the coprocessor has answered so far
   pub answers : List Answer
 
 -- A rule: its number, its status, the kinds that it concerns ([] is all), and where it holds.
@@ -263,15 +271,12 @@ naming_rules =
     -- some kind has this class, instruction and parameters
     record { number = 6; status = fixed 0x6A86; kinds = []; holds = λ s. list_any (has_parameters s.command) kinds } ∷ []
 
--- the longest body of one request
-abbrev pub MAX_REQUEST : ℕ
-MAX_REQUEST = 2048
-
 -- whether the request can be answered by its kind, whatever the kind is
 abbrev pub request_rules : List RuleRow
 request_rules =
-    -- the request's body has at most 2,048 bytes. No request of this stage is sent in fragments, so the
-    -- command is the request.
+    -- no chain of fragments is open, or the command has its instruction and parameters
+    record { number = 7; status = fixed 0x6883; kinds = []; holds = λ s. s.unbroken } ∷
+    -- the request's body has at most 2,048 bytes so far
     record { number = 8; status = fixed 0x6700; kinds = []; holds = λ s. nat_le (length s.command.body) MAX_REQUEST } ∷ []
 
 -- whether a command of its kind is carried out

@@ -13,20 +13,21 @@ use Rattle.eid_model.specs.declared.kind.Kind.{Kind}
 use Rattle.eid_model.specs.declared.kind.Kind.TheVariants.{SelectApplication, SelectMasterFile, SelectFile, ReadBinary, SelectPace, EncryptedNonce, MapNonce, PerformKeyAgreement, MutualAuthentication, ChangePin, UnblockPin, NoStep}
 use Rattle.eid_model.specs.Kinds.{kind_named, step_after, begins_run, goes_on_in_run}
 use Rattle.eid_model.specs.Moments.{PlainMoment, succeeded}
+use Rattle.eid_model.specs.Chains.{request_of}
 use Rattle.eid_model.specs.Bodies.{data_in}
 
 abbrev pub answers_of : List Ask → List Answer
 answers_of asks = map (λ (ask : Ask). ask.answer) asks
 
--- A step: its kind, the command, and what the coprocessor answered.
+-- A step: its kind, the request, and what the coprocessor answered.
 pub record Step : Type 0 where
   pub kind : Kind
   pub command : PlainCommand
   pub answers : List Answer
 
--- the kind that the moment carried out, where it succeeded and this step came next in the run
-abbrev pub kind_done : Option Kind → PlainMoment → Option Kind
-kind_done next m = if succeeded m then option_and_then (kind_named next) m.plain else None
+-- the kind of the request that the newest moment carried out, where it succeeded and this step came next in the run
+abbrev pub kind_done : Option Kind → PlainMoment → List PlainMoment → Option Kind
+kind_done next m before = if succeeded m then option_and_then (kind_named next) (request_of m before) else None
 
 -- the step that comes next in a run
 abbrev pub next : List Step → Option Kind
@@ -35,16 +36,17 @@ next (step ∷ before) = step_after step.kind
 
 -- the run after a moment that carried out this kind, or none
 abbrev pub continued : Option Kind → Option PlainCommand → List Answer → List Step → List Step
-continued None plain answers run = []
+continued None request answers run = []
 continued (Some kind) None answers run = []
 continued (Some kind) (Some c) answers run =
     if begins_run kind then record { kind = kind; command = c; answers = answers } ∷ []
     else if goes_on_in_run kind then record { kind = kind; command = c; answers = answers } ∷ run
     else []
 
+-- The run. A fragment ends it, because no step that can come next is sent in fragments.
 abbrev pub run : List PlainMoment → List Step
 run [] = []
-run (m ∷ before) = continued (kind_done (next (run before)) m) m.plain (answers_of m.asks) (run before)
+run (m ∷ before) = continued (kind_done (next (run before)) m before) (request_of m before) (answers_of m.asks) (run before)
 
 -- What later steps need of a run.
 pub data Phase : Type 0 where

@@ -2,6 +2,7 @@
 use Rattle.std.specs.Prelude.{ℕ, ◌+◌, ◌*◌, ◌-◌, ◌%◌, ◌^◌, Bool, true, false, List, [], ◌∷◌, Option, Some, None, is_some, unwrap_or, option_map, option_and_then, if◌then◌else◌, slice_index}
 use Rattle.std.specs.Option.{option_or}
 use Rattle.eid_apdu.specs.Command.{PlainCommand}
+use Rattle.eid_apdu.specs.Chaining.{OpenChain}
 use Rattle.eid_record.specs.declared.fields.Password.{Password}
 use Rattle.eid_pace.specs.States.{PlainDone}
 use Rattle.eid_pace.specs.Check.{done_by}
@@ -11,11 +12,12 @@ use Rattle.eid_model.specs.declared.kind.Kind.{Kind}
 use Rattle.eid_model.specs.declared.kind.Kind.TheVariants.{SelectApplication, SelectMasterFile, SelectFile, ReadBinary, SelectPace, EncryptedNonce, MapNonce, PerformKeyAgreement, MutualAuthentication, ChangePin, UnblockPin, NoStep}
 use Rattle.eid_model.specs.Kinds.{is_by_short, file_of_short, file_of_id}
 use Rattle.eid_model.specs.Moments.{PlainMoment, live}
+use Rattle.eid_model.specs.Chains.{chaining, request_of}
 use Rattle.eid_model.specs.Runs.{kind_done, run, next, Phase, Idle, Chose, SentNonce, HasBase, HasSecret, phase}
 
 -- the kind that the newest moment carried out
 abbrev pub kind_of_moment : PlainMoment → List PlainMoment → Option Kind
-kind_of_moment m before = kind_done (next (run before)) m
+kind_of_moment m before = kind_done (next (run before)) m before
 
 -- what a kind carried out makes of the selection: the application, or the master file
 abbrev pub selects : Kind → Option Bool
@@ -55,7 +57,7 @@ abbrev pub selection : Option Kind → Option Bool
 selection kind = option_and_then selects kind
 
 abbrev pub naming : Option Kind → Option PlainCommand → Option ℕ
-naming kind plain = option_and_then (λ k. option_and_then (names k) plain) kind
+naming kind request = option_and_then (λ k. option_and_then (names k) request) kind
 
 -- the last of the application and the master file to be selected is the application
 abbrev pub selected : List PlainMoment → Bool
@@ -66,7 +68,7 @@ selected (m ∷ before) = unwrap_or (selection (kind_of_moment m before)) (selec
 abbrev pub current : List PlainMoment → Option ℕ
 current [] = None
 current (m ∷ before) =
-    if is_some (selection (kind_of_moment m before)) then None else option_or (naming (kind_of_moment m before) m.plain) (current before)
+    if is_some (selection (kind_of_moment m before)) then None else option_or (naming (kind_of_moment m before) (request_of m before)) (current before)
 
 -- the PACE that ends with a secret agreed
 abbrev pub done_with : Phase → Option PlainDone
@@ -153,6 +155,8 @@ pub record State : Type 0 where
   pub pace : Option PaceMemory
   -- the keys and the counter of secure messaging
   pub channel : Option ChannelState
+  -- the chain of fragments that is open
+  pub chaining : Option OpenChain
 
 abbrev pub state_in : List PlainMoment → State
 state_in session = record {
@@ -162,6 +166,7 @@ state_in session = record {
   current = current session;
   pace = option_map memory_of (pace session);
   channel = channel session;
+  chaining = chaining session;
 }
 
 -- the state after these moments of a journal with this opening record
@@ -170,4 +175,8 @@ state_of opening moments = state_in (live moments)
 
 -- the state where a session begins
 abbrev pub fresh : State
-fresh = record { next = None; phase = Idle; selected = false; current = None; pace = None; channel = None }
+fresh = record { next = None; phase = Idle; selected = false; current = None; pace = None; channel = None; chaining = None }
+
+-- the state beside its chain of fragments: what a whole request finds
+abbrev pub unchained : State → State
+unchained s = record s { chaining = None }

@@ -5,7 +5,7 @@ use Rattle.eid_apdu.specs.Command.{plain_command}
 use Rattle.eid_apdu.specs.Answer.{plain_reply}
 use Rattle.eid_model.specs.Rules.{MissingObjects, WrongObjects, OfCommand}
 use Rattle.eid_chip.specs.Held.{held}
-use Rattle.eid_chip.specs.States.{state}
+use Rattle.eid_chip.specs.States.{chained, state}
 use Rattle.eid_chip.proofs.Outcomes.{transport_refused, refused_responds, command_answered}
 use Rattle.eid_chip.proofs.chip.respond_in.Goals as goal
 
@@ -13,20 +13,22 @@ pub returns-in-Err-Missing-clause-responds : goal.returns-in-Err-Missing-clause-
 returns-in-Err-Missing-clause-responds g c =
     let kept = held (g.E.Eeprom.cells c.args.cells.now) in
     let channel = Some c.args.channel.now in
-    refused_responds MissingObjects c.args.session channel c.args.bytes.now _ c.without_command.result.ending c.refused.result (plain_reply c.refused.new.reply) (g.C.Coprocessor.seen c.args.copro.now) c.args.store.now _ _ c.requires.mounted
-    (c.unwrap.ensures.missing.0 (cc)) refl (rw c.without_command.ensures.0 refl) c.without_command.ensures.1
-    (transport_refused kept (state c.args.session channel) MissingObjects (record { rule = 2; status = 0x6987 }) c.refused.result (plain_reply c.refused.new.reply) refl refl
-    (ap (λ (r : Rule). r.0) c.refused.ensures.rule) c.refused.ensures.reply (c.refused.ensures.left channel))
+    let refused = c.refused-reaction in
+    let without = c.without_command in
+    refused_responds MissingObjects c.args.session channel c.args.chain.now.pending c.args.bytes.now _ without.result.ending refused.result (plain_reply refused.new.reply) without.new.chain.pending (g.C.Coprocessor.seen c.args.copro.now) c.args.store.now _ _ c.requires.mounted
+    (c.unwrap.ensures.missing.0 (cc)) refl (rw without.ensures.response.0 refl) without.ensures.response.1 without.ensures.closed
+    (transport_refused kept (chained c.args.chain.now.pending (state c.args.session channel)) MissingObjects (record { rule = 2; status = 0x6987 }) refused.result (plain_reply refused.new.reply) refl refl
+    (ap (λ (r : Rule). r.0) refused.ensures.rule) refused.ensures.reply (refused.ensures.left channel))
 
 pub returns-in-Err-Wrong-clause-responds : goal.returns-in-Err-Wrong-clause-responds
 returns-in-Err-Wrong-clause-responds g c =
     let kept = held (g.E.Eeprom.cells c.args.cells.now) in
     let channel = Some c.args.channel.now in
-    let refused = c.refused-in-Err-Wrong in
+    let refused = c.refused-reaction-in-Err-Wrong in
     let without = c.without_command-in-Err-Wrong in
-    refused_responds WrongObjects c.args.session channel c.args.bytes.now _ without.result.ending refused.result (plain_reply refused.new.reply) (g.C.Coprocessor.seen c.args.copro.now) c.args.store.now _ _ c.requires.mounted
-    (λ lacks. let missing = c.unwrap.ensures.missing.1 lacks in absurd (cc), λ d protected. absurd (c.in-Err-Wrong.ensures.only d protected)) refl (rw without.ensures.0 refl) without.ensures.1
-    (transport_refused kept (state c.args.session channel) WrongObjects (record { rule = 3; status = 0x6988 }) refused.result (plain_reply refused.new.reply) refl refl
+    refused_responds WrongObjects c.args.session channel c.args.chain.now.pending c.args.bytes.now _ without.result.ending refused.result (plain_reply refused.new.reply) without.new.chain.pending (g.C.Coprocessor.seen c.args.copro.now) c.args.store.now _ _ c.requires.mounted
+    (λ lacks. let missing = c.unwrap.ensures.missing.1 lacks in absurd (cc), λ d protected. absurd (c.in-Err-Wrong.ensures.only d protected)) refl (rw without.ensures.response.0 refl) without.ensures.response.1 without.ensures.closed
+    (transport_refused kept (chained c.args.chain.now.pending (state c.args.session channel)) WrongObjects (record { rule = 3; status = 0x6988 }) refused.result (plain_reply refused.new.reply) refl refl
     (ap (λ (r : Rule). r.0) refused.ensures.rule) refused.ensures.reply (refused.ensures.left channel))
 
 pub returns-clause-responds : goal.returns-clause-responds
@@ -46,5 +48,5 @@ pub returns-clause-channel : goal.returns-clause-channel
 returns-clause-channel g c =
     let did = c.react.ensures.reacts in
     let incoming = plain_command c.with_body-c.result in
-    let others = command_answered (state c.args.session None) incoming did.asks c.react.result (plain_reply c.react.new.reply) _ _ (did.ended None) in
+    let others = command_answered (chained c.args.chain.now.pending (state c.args.session None)) incoming did.asks c.react.result (plain_reply c.react.new.reply) c.react.new.chain.pending _ _ (did.ended None) in
     rw others (ap Some c.in-Ok.ensures.counted)
