@@ -1,5 +1,7 @@
--- Dates of six digits, YYMMDD (BSI TR-03110-3).
-use Rattle.std.specs.Prelude.{ℕ, ◌+◌, ◌*◌, Bool, false, ◌&&◌, List, [], ◌∷◌, nat_le}
+-- Dates: of six digits, YYMMDD, and of eight ASCII digits, YYYYMMDD (BSI TR-03110-3).
+use Rattle.std.specs.Prelude.{ℕ, ◌+◌, ◌-◌, ◌*◌, ◌==◌, Bool, false, ◌&&◌, List, [], ◌∷◌, length, drop, map, nat_le}
+use Rattle.std.specs.Char.{is_ascii_digit}
+use Rattle.std.specs.List.{list_all}
 
 -- a number from low to high
 abbrev pub is_between : ℕ → ℕ → ℕ → Bool
@@ -18,6 +20,14 @@ abbrev pub spelled : ℕ → List ℕ → ℕ
 spelled front [] = front
 spelled front (d ∷ ds) = spelled (10 * front + d) ds
 
--- the number YYMMDD, by which dates compare
+-- the number YYMMDD or YYYYMMDD, by which dates compare
 abbrev pub number_of : List ℕ → ℕ
 number_of digits = spelled 0 digits
+
+-- the digits that ASCII characters are
+abbrev pub digits_of : List ℕ → List ℕ
+digits_of text = map (λ character. character - 0x30) text
+
+-- eight ASCII digits, of which the last six are a date
+abbrev pub is_long_date : List ℕ → Bool
+is_long_date text = length text == 8 && list_all is_ascii_digit text && is_date (drop 2 (digits_of text))

@@ -10,4 +10,4 @@ mod template;
 pub use date::{BadDate, Date6};
 pub use identifier::Known;
 pub use lookup::{known, law_one_identifier};
-pub use template::{BadTemplate, Template};
+pub use template::{BadTemplate, Bits, Role, Template};

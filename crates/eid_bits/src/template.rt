@@ -1,8 +1,22 @@
-ghost use Rattle.std.specs.Prelude.{◌≡◌, ◌↔◌, length, IsOk, IfOk};
+ghost use Rattle.std.specs.Prelude.{◌≡◌, ◌↔◌, ◌==◌, ◌&&◌, ◌<◌, ℕ, length, IsOk, IfOk};
+ghost use Rattle.std.specs.Int.{bit_at};
 
 /// The bytes are not five.
 #[derive(Clone, Copy, Debug)]
 pub struct BadTemplate;
+
+/// Whose certificates a template is for, by bits 39 and 38 (BSI TR-03110-4).
+#[derive(Clone, Copy)]
+pub enum Role {
+    /// A country verifying certification authority: 11.
+    Cvca,
+    /// An official domestic document verifier: 10.
+    Domestic,
+    /// Another document verifier: 01.
+    Foreign,
+    /// An authentication terminal: 00.
+    Terminal,
+}
 
 /// The discretionary data of an authorisation template for authentication terminals: five bytes, in which
 /// bits 39 and 38 are the role and each lower bit is a right (BSI TR-03110-4).
@@ -13,7 +27,8 @@ pub struct Template {
 }
 
 impl Template {
-    ghost use Rattle.eid_bits.specs.Template.{template_bytes};
+    ghost use Rattle.eid_bits.specs.Template.{template_bit, template_bytes, template_number};
+    ghost use Rattle.eid_bits.specs.Rights.{has_right, is_right, role_of};
 
     /// The template of these bytes.
     ///
@@ -37,4 +52,64 @@ impl Template {
     {
         &self.bytes
     }
+
+    /// The role.
+    pub fn role(&self) -> Role
+        ensures { result ≡ role_of (template_bytes self.now) }
+    {
+        match (self.has(39), self.has(38)) {
+            (true, true) => Role::Cvca,
+            (true, false) => Role::Domestic,
+            (false, true) => Role::Foreign,
+            (false, false) => Role::Terminal,
+        }
+    }
+
+    /// The rights.
+    #[tactic(auto, using(crate::proofs::Masks::rights_kept))]
+    pub fn bits(&self) -> Bits
+        ensures { (bit : ℕ) → has_right result bit ≡ (is_right bit && template_bit (template_bytes self.now) bit) }
+    {
+        Bits(self.number() & RIGHTS)
+    }
+
+    #[tactic(auto, unfolding(crate::specs::Template::template_bit))]
+    fn has(&self, bit: u32) -> bool
+        ensures { result ≡ template_bit (template_bytes self.now) bit }
+    {
+        is_set(self.number(), bit)
+    }
+
+    /// The five bytes as one number.
+    fn number(&self) -> u64
+        ensures { result ≡ template_number (template_bytes self.now) }
+    {
+        let [a, b, c, d, e] = self.bytes;
+        u64::from_be_bytes([0, 0, 0, a, b, c, d, e])
+    }
+}
+
+/// Bits 0 to 28 and 33 to 37.
+const RIGHTS: u64 = 0x3E_1FFF_FFFF;
+
+/// The rights of a template (BSI TR-03110-4).
+#[derive(Clone, Copy)]
+pub struct Bits(u64);
+
+impl Bits {
+    ghost use Rattle.eid_bits.specs.Rights.{has_right};
+
+    /// Whether the right with this number is among them.
+    pub fn has(self, bit: u32) -> bool
+        ensures { result ≡ has_right self bit }
+    {
+        is_set(self.0, bit)
+    }
+}
+
+/// Whether a bit of a number is set, where bit 0 is the lowest.
+fn is_set(number: u64, bit: u32) -> bool
+    ensures { result ≡ (bit_at number bit == 1) }
+{
+    bit < u64::BITS && number >> bit & 1 == 1
 }
