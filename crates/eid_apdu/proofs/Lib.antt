@@ -1,4 +1,5 @@
 pub mod Chains
+pub mod JoinedRequest
 pub mod OneCommand
 pub mod Tails
 pub mod Written

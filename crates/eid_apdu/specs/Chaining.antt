@@ -1,6 +1,6 @@
 -- Command chaining (ISO/IEC 7816-4): a request that is sent in several commands. All but the last have class 10, and all have
 -- the same instruction and parameters; the request's body is their bodies, joined.
-use Rattle.std.specs.Prelude.{ℕ, Bool, true, false, ◌≡◌, ◌<◌, ◌≤◌, ◌==◌, ◌&&◌, ◌||◌, not, nat_le, List, [], ◌++◌, length, Option, Some, None, if◌then◌else◌}
+use Rattle.std.specs.Prelude.{ℕ, Bool, true, false, ◌≡◌, ◌<◌, ◌≤◌, ◌==◌, ◌&&◌, ◌||◌, not, nat_le, List, [], ◌∷◌, ◌++◌, length, Option, Some, None, if◌then◌else◌}
 use Rattle.eid_apdu.specs.Command.{PlainCommand}
 use Rattle.eid_apdu.specs.declared.chain.Fed.{Fed}
 use Rattle.eid_apdu.specs.declared.chain.Fed.TheVariants.{More, Whole, Broken, TooLong}
@@ -79,3 +79,25 @@ body_after chain c TooLong = []
 -- what is held after a command
 abbrev pub collected : Option OpenChain → PlainCommand → Fed → Collected
 collected chain c said = record { pending = chain_after chain c said; body = body_after chain c said }
+
+-- the command is a fragment, with the instruction and the parameters of the last command of its request
+pub record IsFragmentOf (last c : PlainCommand) : Type 0 where
+  pub fragment : is_fragment c ≡ true
+  pub ins : c.ins ≡ last.ins
+  pub p1 : c.p1 ≡ last.p1
+  pub p2 : c.p2 ≡ last.p2
+
+-- the bodies of commands, joined
+abbrev pub joined_bodies : List PlainCommand → List ℕ
+joined_bodies [] = []
+joined_bodies (c ∷ cs) = c.body ++ joined_bodies cs
+
+-- the chain after commands, fed one after the other
+abbrev pub chain_after_all : Option OpenChain → List PlainCommand → Option OpenChain
+chain_after_all chain [] = chain
+chain_after_all chain (c ∷ cs) = chain_after_all (chain_after chain c (fed chain c)) cs
+
+-- The last command is the request of the whole: of all bodies in their order.
+pub record IsWholeOf (fragments : List PlainCommand) (last : PlainCommand) : Type 0 where
+  pub said : fed (chain_after_all None fragments) last ≡ Whole
+  pub joined : request (chain_after_all None fragments) last ≡ record last { body = joined_bodies fragments ++ last.body }

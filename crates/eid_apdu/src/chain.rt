@@ -1,6 +1,7 @@
 //! Command chaining: a request that is sent in several commands (ISO/IEC 7816-4).
-ghost use Rattle.std.specs.Prelude.{◌≡◌, ◌≤◌, ◌&&◌, ◌==◌, length, is_some};
-ghost use Rattle.eid_apdu.specs.Command.{plain_command};
+ghost use Rattle.std.specs.Prelude.{◌≡◌, ◌≤◌, ◌&&◌, ◌==◌, ◌++◌, false, List, length, is_some};
+ghost use Rattle.std.specs.List.{All};
+ghost use Rattle.eid_apdu.specs.Command.{PlainCommand, plain_command};
 ghost use Rattle.eid_apdu.specs.Chaining as chaining;
 ghost use Rattle.eid_apdu.specs.Collecting.{IsJoined, Joins, chain_of};
 
@@ -181,3 +182,11 @@ impl<const N: usize> Chain<N> {
         fed
     }
 }
+
+/// Fragments, fed one after the other, and the command that ends them are one request: its body is all their bodies, in
+/// order.
+pub fn law_joined_request()
+    ensures { (fragments : List PlainCommand) (last : PlainCommand) → All (chaining.IsFragmentOf last) fragments
+        → chaining.is_fragment last ≡ false → length (chaining.joined_bodies fragments ++ last.body) ≤ 2048
+        → chaining.IsWholeOf fragments last }
+{}

@@ -6,7 +6,7 @@ mod command;
 mod reply;
 mod writing;
 
-pub use chain::{Chain, Fed, MAX_REQUEST, is_fragment};
+pub use chain::{Chain, Fed, MAX_REQUEST, is_fragment, law_joined_request};
 pub use command::{
     BadApdu, Command, extended_expected, law_one_command, read_command, short_expected,
 };
