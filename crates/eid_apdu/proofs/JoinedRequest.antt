@@ -1,5 +1,5 @@
 -- Fragments, fed one after the other, and the command that ends them are the request of their bodies.
-use Rattle.std.proofs.Common.{◌≡◌, ℕ, ◌≤◌, ◌==◌, true, false, List, [], ◌∷◌, ◌++◌, length, Option, None, Some, refl, sym, ap, subst, ◌∙◌, rules, arith, eq-eqb, length-append, append_assoc}
+use Rattle.std.proofs.Common.{◌≡◌, ℕ, ◌+◌, ◌≤◌, ◌==◌, true, false, List, [], ◌∷◌, ◌++◌, length, Option, None, Some, refl, sym, ap, subst, ◌∙◌, rules, arith, eq-eqb, length-append, append_assoc}
 use Rattle.std.specs.List.{All}
 use Rattle.std.proofs.lemmas.List.Elements.{All-head, All-tail}
 use Rattle.eid_apdu.specs.Command.{PlainCommand}
@@ -11,7 +11,8 @@ use Rattle.eid_apdu.proofs.Chains.{says_fed}
 abbrev chain_with : PlainCommand → List ℕ → Option OpenChain
 chain_with last joined = Some (record { ins = last.ins; p1 = last.p1; p2 = last.p2; joined = joined })
 
-continues_with : (last c : PlainCommand) (joined : List ℕ) → c.ins ≡ last.ins → c.p1 ≡ last.p1 → c.p2 ≡ last.p2 → continues (chain_with last joined) c ≡ true
+continues_with : (last c : PlainCommand) (joined : List ℕ) → c.ins ≡ last.ins → c.p1 ≡ last.p1 → c.p2 ≡ last.p2
+    → continues (chain_with last joined) c ≡ true
 continues_with last c joined i p q =
     let ins : (last.ins == c.ins) ≡ true = eq-eqb last.ins c.ins (sym i) in
     let p1 : (last.p1 == c.p1) ≡ true = eq-eqb last.p1 c.p1 (sym p) in
@@ -22,7 +23,8 @@ continues_with last c joined i p q =
 goes_on : (last c : PlainCommand) (joined : List ℕ) → IsFragmentOf last c → length (joined ++ c.body) ≤ MAX_REQUEST
     → chain_after (chain_with last joined) c (fed (chain_with last joined) c) ≡ chain_with last (joined ++ c.body)
 goes_on last c joined f short =
-    let said : More ≡ fed (chain_with last joined) c = says_fed (chain_with last joined) c More (continues_with last c joined f.ins f.p1 f.p2, short, f.fragment) in
+    let same : continues (chain_with last joined) c ≡ true = continues_with last c joined f.ins f.p1 f.p2 in
+    let said : More ≡ fed (chain_with last joined) c = says_fed (chain_with last joined) c More (same, short, f.fragment) in
     rw (sym said, f.ins, f.p1, f.p2) refl
 
 -- the first one begins a chain
@@ -36,7 +38,9 @@ all_go_on : (last : PlainCommand) (joined : List ℕ) (cs : List PlainCommand) �
     → chain_after_all (chain_with last joined) cs ≡ chain_with last (joined ++ joined_bodies cs)
 all_go_on last joined [] all short = ap (chain_with last) (search rules)
 all_go_on last joined (c ∷ cs) all short =
-    let one : length (joined ++ c.body) ≤ MAX_REQUEST = omega (arith, short, length-append joined c.body, length-append joined (c.body ++ joined_bodies cs), length-append c.body (joined_bodies cs)) in
+    let sizes : length (joined ++ (c.body ++ joined_bodies cs)) ≡ length joined + (length c.body + length (joined_bodies cs)) =
+    omega (arith, length-append joined (c.body ++ joined_bodies cs), length-append c.body (joined_bodies cs)) in
+    let one : length (joined ++ c.body) ≤ MAX_REQUEST = omega (arith, short, sizes, length-append joined c.body) in
     let order : (joined ++ c.body) ++ joined_bodies cs ≡ joined ++ (c.body ++ joined_bodies cs) = append_assoc joined c.body (joined_bodies cs) in
     let others : length ((joined ++ c.body) ++ joined_bodies cs) ≤ MAX_REQUEST = subst (λ (b : List ℕ). length b ≤ MAX_REQUEST) (sym order) short in
     ap (λ (chain : Option OpenChain). chain_after_all chain cs) (goes_on last c joined (All-head (IsFragmentOf last) c cs all) one)

@@ -1,4 +1,4 @@
--- Inside: what the fields of a collector stand for. Only private functions cite these.
+-- Inside: what the private fields of a collector stand for, and how a body is appended to them.
 use Rattle.std.specs.Prelude.{ℕ, ◌≡◌, ◌<◌, ◌≤◌, true, false, List, ◌++◌, length, Option, Some, None}
 use Rattle.eid_apdu.specs.Command.{PlainCommand}
 use Rattle.eid_apdu.specs.Chaining.{OpenChain, Collected, nothing_collected, is_fragment, body_so_far, MAX_REQUEST}

@@ -120,6 +120,7 @@ fn about_message(alloc: Global, question: &str, given: &[Vec<u8>]) -> Answer {
         "command" => messages::command(alloc, given),
         "reply" => messages::reply(alloc, given),
         "write-reply" => messages::write_reply(alloc, given),
+        "chain" => messages::chain(alloc, given),
         "object" => objects::object(alloc, given),
         "put" => objects::put(alloc, given),
         "find" => objects::find(alloc, given),

@@ -1,8 +1,8 @@
 //! Questions about command and response APDUs.
 use crate::words::{
-    Answer, Piece, Unanswered, all_bytes, buffer, fixed, line, number, shown_buffer, word,
+    Answer, Piece, Unanswered, all_bytes, buffer, fixed, line, number, put_word, shown_buffer, word,
 };
-use eid_apdu::{Command, Reply};
+use eid_apdu::{Chain, Command, Fed, MAX_REQUEST, Reply};
 use eid_base::Status;
 use std::alloc::Global;
 
@@ -119,4 +119,38 @@ pub fn write_reply(alloc: Global, given: &[Vec<u8>]) -> Answer {
     };
     let fits = eid_apdu::write_reply(&reply, &mut out).is_ok();
     shown_buffer(alloc, fits, out.as_slice())
+}
+
+/// `chain COMMAND ..`: what each command is to the chain that those before it left, and the bodies joined so far.
+pub fn chain(alloc: Global, given: &[Vec<u8>]) -> Answer {
+    let mut chain = Chain::<MAX_REQUEST>::new();
+    let mut told = String::new(alloc);
+    for sent in given {
+        let Ok(c) = eid_apdu::read_command(sent) else {
+            return Err(Unanswered::Unclear);
+        };
+        let fed = shown_fed(chain.feed(&c));
+        put_fed(alloc, fed, chain.body(), &mut told)?;
+    }
+    Ok(told)
+}
+
+fn shown_fed(fed: Fed) -> &'static str {
+    match fed {
+        Fed::More => "more ",
+        Fed::Whole => "whole ",
+        Fed::Broken => "broken ",
+        Fed::TooLong => "too-long ",
+    }
+}
+
+fn put_fed<'a>(
+    alloc: Global,
+    fed: &'a str,
+    body: &'a [u8],
+    told: &mut String,
+) -> Result<(), Unanswered> {
+    let piece = line(alloc, &[Piece::Text(fed), Piece::Bytes(body)])?;
+    put_word(told, &piece)?;
+    Ok(())
 }

@@ -216,6 +216,13 @@ const NEW_PIN_TOLD: &str = " rule 0
 #[rattlefmt::skip]
 const UNBLOCK: &str = "apdu 0c2c03030a8e0832cb5e24c00b3c2400\n";
 
+// The last command of a chain, with the reference of the CAN, and a piece of the body of a fragment.
+#[rattlefmt::skip]
+const LAST_OF_A_CHAIN: &str = "apdu 0022C1A403830102\n";
+
+#[rattlefmt::skip]
+const BYTES_128: &str = "0000000000000000000000000000000000000000000000000000000000000000000000000000000000000000000000000000000000000000000000000000000000000000000000000000000000000000000000000000000000000000000000000000000000000000000000000000000000000000000000000000000000000000";
+
 /// What is sent behind a power on, and what it comes to.
 struct Session {
     /// What the row shows.
@@ -242,7 +249,7 @@ struct Session {
 
 /// The sessions, by what they show.
 #[rattlefmt::skip]
-const SESSIONS: [Session; 17] = [
+const SESSIONS: [Session; 20] = [
     Session {
         shows: "after power on SELECT of the application is carried out", config: ACCESS, said: RUN, answers: &[],
         with: Password::Can, sent: 0, carried_out: 0,
@@ -297,6 +304,31 @@ const SESSIONS: [Session; 17] = [
         with: Password::Can, sent: 0, carried_out: 0,
         more: &["apdu 0022C1A40F800A04007F00070202040202830105\n"],
         told: &[" rule 11\n answer 6a88\n"],
+        kept: true,
+    },
+    Session {
+        shows: "a selection of PACE in two commands is the selection that they are joined", config: ACCESS, said: RUN, answers: &[],
+        with: Password::Can, sent: 0, carried_out: 0,
+        more: &["apdu 1022C1A40C800A04007F00070202040202\n", LAST_OF_A_CHAIN, STEP_1],
+        told: &[DONE, DONE, STEP_1_WITH_CAN],
+        kept: true,
+    },
+    Session {
+        shows: "behind a fragment another command is refused, and ends the chain", config: ACCESS, said: RUN, answers: &[],
+        with: Password::Can, sent: 0, carried_out: 0,
+        more: &["apdu 1022C1A40C800A04007F00070202040202\napdu 00A4040C09E80704007F00070302\n", LAST_OF_A_CHAIN],
+        told: &[DONE, " rule 7\n answer 6883\n rule 10\n answer 6a80\n"],
+        kept: true,
+    },
+    Session {
+        shows: "the fragments of a request have at most 2,048 bytes", config: ACCESS, said: RUN, answers: &[],
+        with: Password::Can, sent: 0, carried_out: 0,
+        more: &[
+            "apdu 1022C1A4000400", BYTES_128, BYTES_128, BYTES_128, BYTES_128, BYTES_128, BYTES_128, BYTES_128, BYTES_128, "\n",
+            "apdu 1022C1A4000400", BYTES_128, BYTES_128, BYTES_128, BYTES_128, BYTES_128, BYTES_128, BYTES_128, BYTES_128, "\n",
+            "apdu 1022C1A4000400", BYTES_128, BYTES_128, BYTES_128, BYTES_128, BYTES_128, BYTES_128, BYTES_128, BYTES_128, "\n",
+        ],
+        told: &[DONE, DONE, " rule 8\n answer 6700\n"],
         kept: true,
     },
     Session {
