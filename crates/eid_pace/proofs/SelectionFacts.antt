@@ -1,20 +1,20 @@
 -- The selection that a body is, as a relation and as a function.
-use Rattle.std.proofs.Common.{◌≡◌, ◌↔◌, ℕ, ◌==◌, ◌&&◌, Bool, true, false, List, [], ◌∷◌, length, drop, Option, Some, None, option_map, refl, sym, ◌∙◌, ap}
+use Rattle.std.proofs.Common.{◌≡◌, ◌↔◌, ℕ, List, [], ◌∷◌, length, Option, Some, None, option_map, refl, sym, ◌∙◌, ap}
 use Rattle.std.specs.Option.{option_and_then}
 use Rattle.std.specs.Str.{bytes_eq}
-use Rattle.std.proofs.lemmas.Bool.{eqb-true}
 use Rattle.std.proofs.lemmas.Option.{cond_some, same_Some}
 use Rattle.std.proofs.lemmas.Slice.Eq.{bytes_eq-Decides}
 use Rattle.eid_tlv.specs.Objects.{Object}
 use Rattle.eid_tlv.specs.Lists.{IsListOf, values}
 use Rattle.eid_tlv.specs.ListIn.{list_in}
 use Rattle.eid_tlv.proofs.ListIn.{list_in-exact}
-use Rattle.eid_pace.specs.Selections.{PlainSelection, IsPaceSelection, HasTemplate, template_value}
+use Rattle.eid_cvc.specs.Templates.{template_in, template_value}
+use Rattle.eid_cvc.proofs.TemplateFacts.{template_complete, template_found}
+use Rattle.eid_pace.specs.Selections.{PlainSelection, IsPaceSelection, HasTemplate}
 use Rattle.eid_pace.specs.Protocols.{protocol_bytes, protocol_with}
 use Rattle.eid_pace.specs.declared.protocol.Protocol.{Protocol}
 use Rattle.eid_pace.specs.declared.protocol.Protocol.TheVariants.{EcdhGmAes128}
-use Rattle.eid_pace.specs.SelectionIn.{protocol_in, reference_in, template_in, template_if_any, selection_of, selection_by, selection_in}
-use Rattle.eid_pace.proofs.Templates.{ends_so}
+use Rattle.eid_pace.specs.SelectionIn.{protocol_in, reference_in, template_if_any, selection_of, selection_by, selection_in}
 use Rattle.eid_pace.proofs.Values.{same_values}
 
 -- what the values of 7F4C say of the template
@@ -51,24 +51,6 @@ reference_is ((byte ∷ []) ∷ []) reference h = cc
 reference_is ((byte ∷ second ∷ rest) ∷ []) reference h = cc
 reference_is (value ∷ other ∷ later) reference h = cc
 
-both : (a b : Bool) → (a && b) ≡ true → (a ≡ true) × (b ≡ true)
-both true b h = (refl, h)
-both false b h = cc
-
-template_is : (value template : List ℕ) → template_in value ≡ Some template → (length template ≡ 5) × (value ≡ template_value template)
-template_is value template h =
-    let is = cond_some (length (drop 13 value) == 5 && bytes_eq value (template_value (drop 13 value))) (drop 13 value) template h in
-    let tests = both (length (drop 13 value) == 5) (bytes_eq value (template_value (drop 13 value))) is.0 in (
-      sym (ap length is.1) ∙ eqb-true (length (drop 13 value)) 5 tests.0,
-      (bytes_eq-Decides value (template_value (drop 13 value))).0 tests.1 ∙ ap template_value is.1,
-    )
-
-is_template_in : (value template : List ℕ) → length template ≡ 5 → value ≡ template_value template → template_in value ≡ Some template
-is_template_in value template size is =
-    let rest = ends_so value template size is in
-    let same = (bytes_eq-Decides value (template_value template)).1 is in
-    rw (rest, size, same) refl
-
 templates_are : (those : List (List ℕ)) (template : Option (List ℕ)) → template_if_any those ≡ Some template → TemplateIs those template
 templates_are [] None h = refl
 templates_are [] (Some template) h = absurd (never template h) where
@@ -88,7 +70,7 @@ templates_are (value ∷ []) template h = by (template_in value) refl template h
   by None is template h = absurd (none template h)
   by (Some t) is None h = absurd (some t h)
   by (Some t) is (Some template) h =
-      let parts = template_is value template (is ∙ ap Some (same t template h)) in
+      let parts = template_found value template (is ∙ ap Some (same t template h)) in
       (parts.0, ap (λ (v : List ℕ). v ∷ []) parts.1)
 templates_are (value ∷ other ∷ later) template h = absurd (none template h) where
   none : (template : Option (List ℕ)) → None ≡ Some template → ⊥
@@ -96,7 +78,7 @@ templates_are (value ∷ other ∷ later) template h = absurd (none template h) 
 
 are_templates : (those : List (List ℕ)) (template : Option (List ℕ)) → TemplateIs those template → template_if_any those ≡ Some template
 are_templates those None is = rw is refl
-are_templates those (Some template) is = rw is.1 (ap (λ (o : Option (List ℕ)). option_map Some o) (is_template_in (template_value template) template is.0 refl))
+are_templates those (Some template) is = rw is.1 (ap (λ (o : Option (List ℕ)). option_map Some o) (template_complete (template_value template) template is.0 refl))
 
 says : (protocols references templates : List (List ℕ)) (selection : PlainSelection) → selection_by protocols references templates ≡ Some selection
     → Says protocols references templates selection

@@ -5,7 +5,8 @@ use Rattle.eid_tlv.specs.Lists.{IsListOf, values, HasValues, IsAmong, IsFound}
 use Rattle.eid_tlv.specs.declared.lists.Found.{Found}
 use Rattle.eid_tlv.specs.declared.lists.Found.TheVariants.{NoList, Absent, Once, Repeated}
 use Rattle.eid_tlv.proofs.Walks.{one_list}
-use Rattle.eid_pace.specs.Selections.{HasTemplate, template_value}
+use Rattle.eid_cvc.specs.Templates.{template_value}
+use Rattle.eid_pace.specs.Selections.{HasTemplate}
 
 -- a list of the same bytes has the same values
 pub same_values : (tag : ℕ) (bytes : List ℕ) (list other : List Object) (those : List (List ℕ)) → IsListOf list bytes → IsListOf other bytes → values tag list ≡ those → values tag other ≡ those

@@ -1,11 +1,11 @@
 -- The selection that a body is, as a function, where it is one.
-use Rattle.std.specs.Prelude.{ℕ, ◌==◌, ◌&&◌, List, [], ◌∷◌, length, drop, if◌then◌else◌}
+use Rattle.std.specs.Prelude.{ℕ, List, [], ◌∷◌}
 use Rattle.std.specs.Prelude.{Option, Some, None, option_map, option_and_then}
-use Rattle.std.specs.Str.{bytes_eq}
 use Rattle.eid_tlv.specs.Lists.{values}
 use Rattle.eid_tlv.specs.ListIn.{list_in}
 use Rattle.eid_pace.specs.Protocols.{protocol_with}
-use Rattle.eid_pace.specs.Selections.{PlainSelection, template_value}
+use Rattle.eid_cvc.specs.Templates.{template_in}
+use Rattle.eid_pace.specs.Selections.{PlainSelection}
 use Rattle.eid_pace.specs.declared.protocol.Protocol.{Protocol}
 
 -- one value, a protocol
@@ -24,12 +24,6 @@ abbrev pub reference_in : List (List ℕ) → Option ℕ
 reference_in [] = None
 reference_in (value ∷ []) = one_byte value
 reference_in (value ∷ other ∷ later) = None
-
--- the five bytes behind the thirteen that say the type
-abbrev pub template_in : List ℕ → Option (List ℕ)
-template_in value =
-    let template = drop 13 value in
-    if length template == 5 && bytes_eq value (template_value template) then Some template else None
 
 -- no value, or one with a template
 abbrev pub template_if_any : List (List ℕ) → Option (Option (List ℕ))

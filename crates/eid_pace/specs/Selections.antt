@@ -1,10 +1,8 @@
 -- The selection of PACE: the body of MSE:Set AT (BSI TR-03110-3), and how it is answered.
-use Rattle.std.specs.Prelude.{◌≡◌, ℕ, ◌==◌, List, [], ◌∷◌, ◌++◌, length, Option, Some, None, Result, Ok, Err, if◌then◌else◌}
-use Rattle.eid_bits.specs.Identifiers.{known_bytes}
-use Rattle.eid_bits.specs.declared.identifier.Known.TheVariants.{AtTemplate}
+use Rattle.std.specs.Prelude.{◌≡◌, ℕ, ◌==◌, List, [], ◌∷◌, length, Option, Some, None, Result, Ok, Err, if◌then◌else◌}
 use Rattle.eid_record.specs.declared.fields.Password.{Password}
 use Rattle.eid_record.specs.declared.fields.Password.TheVariants.{Can, Pin, Puk}
-use Rattle.eid_tlv.specs.Objects.{object}
+use Rattle.eid_cvc.specs.Templates.{template_value}
 use Rattle.eid_tlv.specs.Lists.{HasValues}
 use Rattle.eid_pace.specs.Protocols.{protocol_bytes}
 use Rattle.eid_pace.specs.Rules.{form_rule, password_rule}
@@ -17,10 +15,7 @@ pub record PlainSelection : Type 0 where
   pub reference : ℕ
   pub template : Option (List ℕ)
 
--- 7F4C holds the template's type, and then its five bytes
-unfoldable pub template_value : List ℕ → List ℕ
-template_value template = object 0x06 (known_bytes AtTemplate) ++ object 0x53 template
-
+-- 7F4C, where there is one, holds a template
 abbrev pub HasTemplate : List ℕ → Option (List ℕ) → Type 0
 HasTemplate body None = HasValues 0x7F4C [] body
 HasTemplate body (Some template) = (length template ≡ 5) × HasValues 0x7F4C (template_value template ∷ []) body

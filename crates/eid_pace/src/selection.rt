@@ -3,12 +3,13 @@ ghost use Rattle.std.specs.Prelude.{◌≡◌, ℕ, List, [], ◌∷◌, length,
 ghost use Rattle.eid_bits.specs.Template.{template_bytes};
 ghost use Rattle.eid_tlv.specs.Lists.{HasValues};
 ghost use Rattle.eid_pace.specs.Protocols.{protocol_bytes};
-ghost use Rattle.eid_pace.specs.Selections.{HasTemplate, IsPaceSelection, PlainSelection, template_value};
+ghost use Rattle.eid_pace.specs.Selections.{HasTemplate, IsPaceSelection, PlainSelection};
 ghost use Rattle.eid_pace.specs.SelectionIn.{selection_in};
 ghost use Rattle.eid_pace.specs.View.{selection_view};
 
 use crate::protocol::Protocol;
 use eid_bits::Template;
+use eid_cvc::read_template;
 use eid_tlv::{Found, find, only_value};
 
 const PROTOCOL: u16 = 0x80;
@@ -85,24 +86,6 @@ fn find_template(body: &[u8]) -> Option<Option<Template>>
         },
         _ => None,
     }
-}
-
-/// What stands before the template in 7F4C {06 its type, 53 the template}.
-const BEFORE_TEMPLATE: [u8; 13] = [0x06, 9, 0x04, 0x00, 0x7F, 0x00, 0x07, 3, 1, 2, 2, 0x53, 5];
-
-/// The template in the value of a 7F4C.
-fn read_template(value: &[u8]) -> Option<Template>
-    ensures found { IfSome result (λ template. value.now ≡ template_value (template_bytes template)) }
-    ensures only { (template : List ℕ) → length template ≡ 5 → value.now ≡ template_value template
-        → IsSomeAnd result (λ found. template_bytes found ≡ template) }
-{
-    let Some(bytes) = value.strip_prefix(&BEFORE_TEMPLATE) else {
-        return None;
-    };
-    let Ok(template) = Template::from_bytes(bytes) else {
-        return None;
-    };
-    Some(template)
 }
 
 /// The definition of the selection that a body is, as a function, gives exactly that selection.

@@ -1,0 +1,10 @@
+pub mod Fronts
+pub mod Templates
+pub mod PublicKeys
+pub mod Extensions
+pub mod Certificates
+pub mod CertificateIn
+pub mod Parts
+pub mod Writing
+pub mod View
+pub mod Chains
