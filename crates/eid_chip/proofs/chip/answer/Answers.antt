@@ -1,10 +1,10 @@
 -- Where no chain is open the command is its request.
-use Rattle.std.proofs.Common.{◌≡◌, ◌<◌, ◌≤◌, Bool, false, ap, refl, sym, ◌∙◌, [], Option, None, Some, length, arith}
+use Rattle.std.proofs.Common.{◌≡◌, false, ap, refl, sym, ◌∙◌, [], Option, None, Some, arith}
 use Rattle.std.specs.Prelude.{is_some}
 use Rattle.eid_base.specs.declared.codes.Rule.{Rule}
 use Rattle.eid_apdu.specs.Command.{plain_command}
 use Rattle.eid_apdu.specs.Answer.{plain_reply}
-use Rattle.eid_apdu.specs.Chaining.{OpenChain, MAX_REQUEST, body_so_far, continues, request}
+use Rattle.eid_apdu.specs.Chaining.{OpenChain}
 use Rattle.eid_chip.proofs.Outcomes.{long_request, request_answered, request_reacts}
 use Rattle.eid_chip.proofs.chip.answer.Goals as goal
 

@@ -1,7 +1,7 @@
 -- The last command of a chain ends its request, or is refused by the rules on requests.
-use Rattle.std.proofs.Common.{◌≡◌, ap, refl, sym, ◌∙◌, List, ℕ, []}
+use Rattle.std.proofs.Common.{◌≡◌, ap, refl, ◌∙◌, List, ℕ, []}
 use Rattle.eid_base.specs.declared.codes.Rule.{Rule}
-use Rattle.eid_apdu.specs.Command.{PlainCommand, plain_command}
+use Rattle.eid_apdu.specs.Command.{plain_command}
 use Rattle.eid_apdu.specs.Answer.{plain_reply}
 use Rattle.eid_apdu.specs.Chaining.{Collected, request}
 use Rattle.eid_chip.proofs.Outcomes.{broken_request, long_request, request_answered, request_reacts}

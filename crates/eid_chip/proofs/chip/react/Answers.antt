@@ -1,5 +1,5 @@
 -- A command whose class, instruction or parameters are refused.
-use Rattle.std.proofs.Common.{ap, refl, []}
+use Rattle.std.proofs.Common.{ap, []}
 use Rattle.eid_base.specs.declared.codes.Rule.{Rule}
 use Rattle.eid_apdu.specs.Command.{plain_command}
 use Rattle.eid_apdu.specs.Answer.{plain_reply}
