@@ -62,3 +62,9 @@ fn is_date(bytes: &[u8]) -> bool
     let are_digits = y1 <= 9 && y2 <= 9 && m1 <= 9 && m2 <= 9 && d1 <= 9 && d2 <= 9;
     are_digits && matches!(10 * m1 + m2, 1..=12) && matches!(10 * d1 + d2, 1..=31)
 }
+
+/// A date as data groups and auxiliary data have it: eight ASCII digits, YYYYMMDD (BSI TR-03110-3, -4).
+#[derive(Clone, Copy, Debug)]
+pub struct Date8 {
+    digits: [u8; 8],
+}

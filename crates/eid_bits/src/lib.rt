@@ -7,7 +7,7 @@ mod identifier;
 mod lookup;
 mod template;
 
-pub use date::{BadDate, Date6};
+pub use date::{BadDate, Date6, Date8};
 pub use identifier::Known;
 pub use lookup::{known, law_one_identifier};
 pub use template::{BadTemplate, Template};

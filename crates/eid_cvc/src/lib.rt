@@ -1,0 +1,9 @@
+//! Card verifiable certificates of terminal authentication (BSI TR-03110-3), and what chip and terminal keep of
+//! them.
+#![tactic(auto)]
+
+mod certificate;
+mod chain;
+
+pub use certificate::{Certificate, CertificateBody, CvcError};
+pub use chain::{Aux, ChainState, Party, TerminalKnown};
