@@ -1,5 +1,5 @@
 -- Card verifiable certificates (BSI TR-03110-3), by writing them.
-use Rattle.std.specs.Prelude.{◌≡◌, ℕ, ◌≤◌, List, [], ◌∷◌, ◌++◌, length, Option, option_map, unwrap_or, option_and_then, IsTrue}
+use Rattle.std.specs.Prelude.{◌≡◌, ℕ, ◌≤◌, List, [], ◌∷◌, ◌++◌, length, Option, option_map, option_and_then, IsTrue}
 use Rattle.eid_bits.specs.Date.{is_date}
 use Rattle.eid_bits.specs.declared.identifier.Known.TheVariants.{TaSha256}
 use Rattle.eid_tlv.specs.Objects.{object}

@@ -1,6 +1,6 @@
 -- The bytes that certificates are written as (BSI TR-03110-3): without domain parameters, and with no other extension than that
 -- for terminal sectors.
-use Rattle.std.specs.Prelude.{ℕ, Bool, ◌||◌, List, [], ◌∷◌, ◌++◌, Option, Some, None, is_some, if◌then◌else◌}
+use Rattle.std.specs.Prelude.{◌≡◌, ℕ, ◌≤◌, List, length, slice_index, [], ◌∷◌, ◌++◌, Option, Some, None, is_some, if◌then◌else◌}
 use Rattle.std.specs.List.{list_any}
 use Rattle.eid_bits.specs.Identifiers.{known_bytes}
 use Rattle.eid_bits.specs.declared.identifier.Known.TheVariants.{Sector}
@@ -8,6 +8,12 @@ use Rattle.eid_tlv.specs.Objects.{object}
 use Rattle.eid_cvc.specs.PublicKeys.{no_domain}
 use Rattle.eid_cvc.specs.Extensions.{Extension, sector_hashes}
 use Rattle.eid_cvc.specs.Certificates.{PlainBody, body_value}
+
+-- what can be written: both references are there, and the key begins with 04
+pub record IsWritable (b : PlainBody) : Type 0 where
+  pub issuer : 1 ≤ length b.issuer
+  pub holder : 1 ≤ length b.holder
+  pub key : slice_index b.key 0 ≡ 4
 
 -- one extension with the hashes, where there is one of them
 abbrev pub extra_written : List (Option (List ℕ)) → Option (List Extension)
