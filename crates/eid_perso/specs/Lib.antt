@@ -4,4 +4,6 @@ pub mod Config
 pub mod Image
 pub mod Forms
 pub mod Keys
+pub mod Kit
+pub mod KitKeys
 pub mod Reading
