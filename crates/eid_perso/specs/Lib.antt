@@ -6,4 +6,5 @@ pub mod Forms
 pub mod Keys
 pub mod Kit
 pub mod KitKeys
+pub mod Issuing
 pub mod Reading

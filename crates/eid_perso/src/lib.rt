@@ -6,6 +6,7 @@ mod files;
 mod form;
 mod forms;
 mod image;
+mod issuing;
 mod keys;
 mod kit;
 mod kit_keys;
@@ -15,6 +16,7 @@ mod show;
 
 pub use config::{Config, ConfigError};
 pub use image::image_of;
+pub use issuing::kit_of;
 pub use kit::{KitError, KitPlan};
 pub use reading::{read_config, read_kit};
 pub use show::show_text;
