@@ -4,7 +4,7 @@ use Rattle.std.specs.Prelude.{option_and_then}
 use Rattle.eid_cvc.specs.Certificates.{PlainBody, IsBody, IsCertificate}
 use Rattle.eid_cvc.specs.Extensions.{AreHashes, AreHashesIn, sector_data}
 use Rattle.eid_cvc.specs.PublicKeys.{no_domain}
-use Rattle.eid_cvc.specs.Writing.{extra_written, written_body, written_certificate}
+use Rattle.eid_cvc.specs.Writing.{certificate_with, extra_written, written_body, written_certificate}
 use Rattle.eid_cvc.proofs.Sizes.{value_size}
 
 -- the hashes that the extension gives are those that it was written with
@@ -17,7 +17,7 @@ hashes_again (Some first ∷ second ∷ []) are = (are, refl)
 hashes_again (one ∷ two ∷ three ∷ more) are = absurd (omega (arith, are.two))
 
 pub certificate_again : (b : PlainBody) (signature : List ℕ) → IsBody b → length signature ≡ 64
-    → IsCertificate (written_certificate b signature) (record { whole = written_body b; body = b; signature = signature })
+    → IsCertificate (written_certificate b signature) (certificate_with b signature)
 unfolding written_body written_certificate
 certificate_again b signature is signed = record {
   domain = no_domain;

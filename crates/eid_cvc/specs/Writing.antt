@@ -7,7 +7,7 @@ use Rattle.eid_bits.specs.declared.identifier.Known.TheVariants.{Sector}
 use Rattle.eid_tlv.specs.Objects.{object}
 use Rattle.eid_cvc.specs.PublicKeys.{no_domain}
 use Rattle.eid_cvc.specs.Extensions.{Extension, sector_hashes}
-use Rattle.eid_cvc.specs.Certificates.{PlainBody, body_value}
+use Rattle.eid_cvc.specs.Certificates.{PlainBody, PlainCertificate, body_value}
 
 -- what can be written: both references are there, and the key begins with 04
 pub record IsWritable (b : PlainBody) : Type 0 where
@@ -29,3 +29,7 @@ written_body b = object 0x7F4E (body_value b no_domain (extra_written b.sectors)
 -- the whole certificate
 unfoldable pub written_certificate : PlainBody → List ℕ → List ℕ
 written_certificate b signature = written_body b ++ object 0x5F37 signature
+
+-- and what it is as a certificate
+abbrev pub certificate_with : PlainBody → List ℕ → PlainCertificate
+certificate_with b signature = record { whole = written_body b; body = b; signature = signature }

@@ -12,7 +12,7 @@ ghost use Rattle.eid_cvc.specs.Extensions.{AreHashes, extensions, sector_hashes}
 ghost use Rattle.eid_cvc.specs.PublicKeys.{no_domain, optional, public_key};
 ghost use Rattle.eid_cvc.specs.Templates.{template_value};
 ghost use Rattle.eid_cvc.specs.View.{body_view};
-ghost use Rattle.eid_cvc.specs.Writing.{IsWritable, extra_written, written_body, written_certificate};
+ghost use Rattle.eid_cvc.specs.Writing.{IsWritable, certificate_with, extra_written, written_body, written_certificate};
 
 use crate::certificate::CertificateBody;
 use arrayvec::ArrayVec;
@@ -154,6 +154,7 @@ pub fn write_body<const N: usize>(
     ensures full { IsErr result ↔ (N < array_vec_len out.old + length (written_body (body_view body.now))) }
     ensures same { OnErr result (out.new ≡ out.old) }
     ensures size { length (written_body (body_view body.now)) ≤ MAX_BODY }
+    ensures body { IsBody (body_view body.now) }
 {
     put(out, 0x7F4E, &body_value(body))
 }
@@ -162,7 +163,7 @@ pub fn write_body<const N: usize>(
 ///
 /// # Errors
 /// `Full` exactly where it does not fit; `out` is then as before.
-#[tactic(auto, unfolding(crate::specs::Writing::written_certificate))]
+#[tactic(auto, using(crate::proofs::Written::certificate_again), unfolding(crate::specs::Writing::written_certificate))]
 pub fn write_certificate<const N: usize>(
     body: &CertificateBody,
     signature: &Signature,
@@ -173,6 +174,7 @@ pub fn write_certificate<const N: usize>(
     ensures full { IsErr result ↔ (N < array_vec_len out.old + length (written_certificate (body_view body.now) signature.now)) }
     ensures same { OnErr result (out.new ≡ out.old) }
     ensures size { length (written_certificate (body_view body.now) signature.now) ≤ MAX_CERTIFICATE }
+    ensures reads { IsCertificate (written_certificate (body_view body.now) signature.now) (certificate_with (body_view body.now) signature.now) }
 {
     let mut whole = ArrayVec::<u8, MAX_CERTIFICATE>::new();
     write_body(body, &mut whole).unwrap();
@@ -186,5 +188,5 @@ pub fn write_certificate<const N: usize>(
 /// What is written is a certificate, and says what was written.
 pub fn law_written_is_read()
     ensures { (b : PlainBody) (signature : List ℕ) → IsBody b → length signature ≡ 64
-        → IsCertificate (written_certificate b signature) (record { whole = written_body b; body = b; signature = signature }) }
+        → IsCertificate (written_certificate b signature) (certificate_with b signature) }
 {}

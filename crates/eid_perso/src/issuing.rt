@@ -1,8 +1,9 @@
 //! The test certificate of a configuration.
 ghost use Rattle.std.specs.Prelude.{◌≡◌, ◌≤◌};
 ghost use Rattle.sha2.specs.Sha256.{sha256};
+ghost use Rattle.eid_cvc.specs.Certificates.{IsCertificate};
 ghost use Rattle.eid_cvc.specs.View.{body_view};
-ghost use Rattle.eid_cvc.specs.Writing.{IsWritable, written_body, written_certificate};
+ghost use Rattle.eid_cvc.specs.Writing.{IsWritable, certificate_with, written_body, written_certificate};
 ghost use Rattle.eid_perso.specs.Kit.{kit_view};
 ghost use Rattle.eid_perso.specs.Issuing.{IsKit};
 
@@ -27,7 +28,8 @@ fn digest_of(body: &CertificateBody) -> [u8; 32]
 /// The bytes of the certificate with this signature.
 fn certificate(body: &CertificateBody, signature: &Signature) -> ArrayVec<u8, MAX_CERTIFICATE>
     requires { IsWritable (body_view body.now) }
-    ensures { result.items ≡ written_certificate (body_view body.now) signature.now }
+    ensures items { result.items ≡ written_certificate (body_view body.now) signature.now }
+    ensures reads { IsCertificate result.items (certificate_with (body_view body.now) signature.now) }
 {
     let mut written = ArrayVec::new();
     write_certificate(body, signature, &mut written).unwrap();
