@@ -8,11 +8,11 @@ use Rattle.eid.specs.declared.exit.Exit.TheVariants.{Done, Usage, FileFault, NoM
 use Rattle.eid_text.specs.Lines.{text_limit}
 use Rattle.eid_script.specs.Scripts.{script_of}
 use Rattle.eid_copro.specs.Lines.{answers_of}
-use Rattle.eid_perso.specs.Reading.{config_of, document_in}
+use Rattle.eid_perso.specs.Reading.{config_of, document_in, kit_of_text}
 use Rattle.eid.specs.Images.{record_of}
 use Rattle.eid_record.specs.Plain.{FullRecord}
 use Rattle.eid_store.specs.Stands.{stands}
-use Rattle.eid.specs.Inputs.{image_in, script_in, answers_in, config_in, or_bad}
+use Rattle.eid.specs.Inputs.{image_in, script_in, answers_in, config_in, kit_in, or_bad}
 use Rattle.eid.specs.Loads.{IsRefused, IsBad}
 
 -- the image, where the file holds these bytes
@@ -108,6 +108,24 @@ config_long (Some text) long = config_is (Some text) text refl ∙ ap (or_bad Ba
 pub config_absent : (file : Option (List ℕ)) → file ≡ None → config_in file ≡ Err FileFault
 unfolding config_in
 config_absent file is = rw is refl
+
+pub kit_is : (file : Option (List ℕ)) (text : List ℕ) → file ≡ Some text → kit_in file ≡ or_bad BadConfig (kit_of_text text)
+unfolding kit_in
+kit_is file text is = rw is refl
+
+long_kit : (text : List ℕ) → 1048576 < length text → kit_of_text text ≡ Err 0
+unfolding kit_of_text document_in
+long_kit text long =
+    let beyond : nat_le (length text) 1048576 ≡ false = grind (arith, nat_tests) in
+    rw beyond refl
+
+pub kit_long : (file : Option (List ℕ)) → IsSomeAnd file (λ text. 1048576 < length text) → kit_in file ≡ Err (BadConfig 0)
+kit_long None long = absurd long
+kit_long (Some text) long = kit_is (Some text) text refl ∙ ap (or_bad BadConfig) (long_kit text long)
+
+pub kit_absent : (file : Option (List ℕ)) → file ≡ None → kit_in file ≡ Err FileFault
+unfolding kit_in
+kit_absent file is = rw is refl
 
 -- from the image of the bytes to the image of the file
 pub image_stands : (r : Result (Vec ℕ Global) Exit) (bytes : Vec ℕ Global) → IfOk r (λ image. (image ≡ bytes) × (length bytes.items ≡ 65536) × IsSome (stands bytes.items)) → IfOk r (λ cells. (length cells.items ≡ 65536) × IsSome (stands cells.items))

@@ -1,4 +1,5 @@
 pub mod EndsOfMake
+pub mod EndsOfKit
 pub mod EndsOfRun
 pub mod EndsOfShow
 pub mod Inputs

@@ -4,7 +4,7 @@ use Rattle.std.specs.Prelude.{codes, slice_index_or, if◌then◌else◌}
 use Rattle.std.specs.Str.{bytes_eq}
 use Rattle.std.specs.Str.Parse.{digits_value}
 use Rattle.std.proofs.lemmas.Fmt.{decimal_is_IsNumeral}
-use Rattle.eid.specs.Commands.{Command, Run, Replay, Make, Show, Says, words_of, HasNumbers}
+use Rattle.eid.specs.Commands.{Command, Run, Replay, Make, Kit, Show, Says, words_of, HasNumbers}
 
 -- the one command that words may be of, by the first word
 said : List (List ℕ) → Command
@@ -13,6 +13,7 @@ said words =
     if bytes_eq (word 0) (codes "run") then Run (word 1) (word 2) (digits_value 10 (word 3))
     else if bytes_eq (word 0) (codes "replay") then Replay (word 1) (word 2) (word 3)
     else if bytes_eq (word 0) (codes "make") then Make (word 1) (word 2)
+    else if bytes_eq (word 0) (codes "kit") then Kit (word 1) (word 2)
     else Show (word 1)
 
 said_back : (c : Command) → HasNumbers c → said (words_of c) ≡ c
@@ -20,6 +21,7 @@ unfolding said
 said_back (Run image script start) numbers = ap (Run image script) (decimal_is_IsNumeral start numbers).1
 said_back (Replay image script answers) numbers = refl
 said_back (Make config image) numbers = refl
+said_back (Kit config file) numbers = refl
 said_back (Show image) numbers = refl
 
 said_by : (words : List (List ℕ)) (c : Command) → Says words c → said words ≡ c

@@ -5,10 +5,11 @@ use Rattle.eid_script.specs.Scripts.{ScriptLine, script_of}
 use Rattle.eid_copro.specs.declared.ask.Answer.{Answer}
 use Rattle.eid_copro.specs.Lines.{answers_of}
 use Rattle.eid_perso.specs.Config.{PlainConfig}
+use Rattle.eid_perso.specs.Kit.{PlainKit}
 use Rattle.eid.specs.declared.exit.Exit.{Exit}
 use Rattle.eid.specs.declared.exit.Exit.TheVariants.{Done, FileFault, BadImage, BadScript, BadConfig, BadAnswers}
-use Rattle.eid.specs.Commands.{Command, Run, Replay, Make, Show}
-use Rattle.eid_perso.specs.Reading.{config_of}
+use Rattle.eid.specs.Commands.{Command, Run, Replay, Make, Kit, Show}
+use Rattle.eid_perso.specs.Reading.{config_of, kit_of_text}
 use Rattle.eid.specs.Images.{record_of}
 
 -- what is read of an input, or the exit that refuses it: absent, or not of its form
@@ -36,6 +37,10 @@ unfoldable pub config_in : Option (List ℕ) → Result PlainConfig Exit
 config_in None = Err FileFault
 config_in (Some text) = or_bad BadConfig (config_of text)
 
+unfoldable pub kit_in : Option (List ℕ) → Result PlainKit Exit
+kit_in None = Err FileFault
+kit_in (Some text) = or_bad BadConfig (kit_of_text text)
+
 -- the first refusal, or what comes later
 abbrev pub unless_refused : {A : Type 0} → Result A Exit → Exit → Exit
 unless_refused (Err exit) later = exit
@@ -48,4 +53,5 @@ expected (Run image script start) files = unless_refused (image_in (files image)
 expected (Replay image script answers) files = unless_refused (image_in (files image)) (unless_refused (script_in (files script)) (unless_refused
     (answers_in (files answers)) Done))
 expected (Make config image) files = unless_refused (config_in (files config)) Done
+expected (Kit config file) files = unless_refused (kit_in (files config)) Done
 expected (Show image) files = unless_refused (image_in (files image)) Done

@@ -4,6 +4,7 @@ pub mod Images
 pub mod Inputs
 pub mod Loads
 pub mod Make
+pub mod Kit
 pub mod Run
 pub mod Ends
 pub mod Show

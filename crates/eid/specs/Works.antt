@@ -4,8 +4,9 @@ use Rattle.eid_base.specs.Faults.{Rose}
 use Rattle.eid_base.specs.Seen.{FolderSeen, SinkSeen, SameFiles}
 use Rattle.eid.specs.declared.exit.Exit.{Exit}
 use Rattle.eid.specs.declared.exit.Exit.TheVariants.{Done, Usage, FileFault, NoMemory, BadImage, BadScript, BadConfig, SinkFault, BadAnswers}
-use Rattle.eid.specs.Commands.{Command, Run, Replay, Make, Show}
+use Rattle.eid.specs.Commands.{Command, Run, Replay, Make, Kit, Show}
 use Rattle.eid.specs.Inputs.{expected}
+use Rattle.eid.specs.Kit.{KitFinished, KitNotStored}
 use Rattle.eid.specs.Make.{MakeFinished, MakeNotStored}
 use Rattle.eid.specs.Run.{RunFinished, RunBrokeOff, RunNotStored, OfRun, OfReplay}
 use Rattle.eid.specs.Show.{ShowFinished, ShowBrokeOff}
@@ -39,6 +40,7 @@ abbrev pub Finished : Command → FolderSeen → FolderSeen → SinkSeen → Sin
 Finished (Run image script start) old new before now = OfRun image script start old (λ source s. RunFinished image source s old new before now)
 Finished (Replay image script answers) old new before now = OfReplay image script answers old (λ source s. RunFinished image source s old new before now)
 Finished (Make config image) old new before now = MakeFinished config image old new before now
+Finished (Kit config file) old new before now = KitFinished config file old new before now
 Finished (Show image) old new before now = ShowFinished image old new before now
 
 -- it broke off while it printed; a command that prints nothing never does
@@ -46,6 +48,7 @@ abbrev pub BrokeOff : Command → FolderSeen → FolderSeen → SinkSeen → Sin
 BrokeOff (Run image script start) old new before now = OfRun image script start old (λ source s. RunBrokeOff source s old new before now)
 BrokeOff (Replay image script answers) old new before now = OfReplay image script answers old (λ source s. RunBrokeOff source s old new before now)
 BrokeOff (Make config image) old new before now = ⊥
+BrokeOff (Kit config file) old new before now = ⊥
 BrokeOff (Show image) old new before now = ShowBrokeOff image old new before now
 
 -- all was done but for the storing of a file; a command that stores none never ends so
@@ -53,6 +56,7 @@ abbrev pub NotStored : Command → FolderSeen → FolderSeen → SinkSeen → Si
 NotStored (Run image script start) old new before now = OfRun image script start old (λ source s. RunNotStored image source s old new before now)
 NotStored (Replay image script answers) old new before now = OfReplay image script answers old (λ source s. RunNotStored image source s old new before now)
 NotStored (Make config image) old new before now = MakeNotStored config image old new before now
+NotStored (Kit config file) old new before now = KitNotStored config file old new before now
 NotStored (Show image) old new before now = ⊥
 
 -- what was done, by the exit

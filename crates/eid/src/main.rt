@@ -2,6 +2,7 @@
 #![tactic(auto)]
 
 mod exit;
+mod kit;
 mod load;
 mod make;
 mod program;

@@ -5,6 +5,7 @@ ghost use Rattle.eid.specs.Words.{command};
 ghost use Rattle.eid.specs.Works.{Meets, NamesFaults, IsIdle};
 
 use crate::exit::Exit;
+use crate::kit::kit;
 use crate::make::make;
 use crate::replay::replay;
 use crate::run::run;
@@ -35,6 +36,7 @@ fn carry_out<F: Folder, K: Sink>(
             answers,
         } => replay(alloc, image, script, answers, folder, out),
         Words::Make { config, image } => make(alloc, config, image, folder),
+        Words::Kit { config, file } => kit(alloc, config, file, folder),
         Words::Show { image } => show(alloc, image, folder, out),
     }
 }

@@ -34,6 +34,13 @@ pub enum Words<'a> {
         /// The name of the image's file.
         image: &'a str,
     },
+    /// To write the test certificate of a configuration.
+    Kit {
+        /// The name of the configuration's file.
+        config: &'a str,
+        /// The name of the certificate's file.
+        file: &'a str,
+    },
     /// To print the record of an image.
     Show {
         /// The name of the image's file.
@@ -104,6 +111,20 @@ fn make_words(rest: &[String]) -> Option<Words<'_>>
     })
 }
 
+/// What the words behind `kit` ask for.
+fn kit_words(rest: &[String]) -> Option<Words<'_>>
+    ensures found { IfSome result (λ w. Says (codes "kit" ∷ map (λ s. string_bytes s) rest.now) (command w)) }
+    ensures none { IfNone result ((c : Command) → Says (codes "kit" ∷ map (λ s. string_bytes s) rest.now) c → ⊥) }
+{
+    let [config, file] = rest else {
+        return None;
+    };
+    Some(Words::Kit {
+        config: config.as_str(),
+        file: file.as_str(),
+    })
+}
+
 /// What the words behind `show` ask for.
 fn show_words(rest: &[String]) -> Option<Words<'_>>
     ensures found { IfSome result (λ w. Says (codes "show" ∷ map (λ s. string_bytes s) rest.now) (command w)) }
@@ -129,6 +150,7 @@ pub fn read_words(alloc: Global, words: &[String]) -> Result<Option<Words<'_>>, 
         "run" => run_words(alloc, rest),
         "replay" => Ok(replay_words(rest)),
         "make" => Ok(make_words(rest)),
+        "kit" => Ok(kit_words(rest)),
         "show" => Ok(show_words(rest)),
         _ => Ok(None),
     }

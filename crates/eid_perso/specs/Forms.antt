@@ -1,6 +1,6 @@
 -- The forms of values: what TOML data gives in a form, and nothing where the form refuses it. This project's own.
 use Rattle.std.specs.Prelude.{ℕ, ◌-◌, Bool, ◌&&◌, List, length, ℤ, pos, int_le, nat_abs, nat_le, map}
-use Rattle.std.specs.Prelude.{Option, Some, None, ◌==◌, if◌then◌else◌, slice_index}
+use Rattle.std.specs.Prelude.{Option, Some, None, option_map, ◌==◌, if◌then◌else◌, slice_index}
 use Rattle.std.specs.Char.{is_ascii_digit}
 use Rattle.std.specs.List.{list_all}
 use Rattle.std.specs.Option.{option_and_then}
@@ -44,6 +44,10 @@ name value = option_and_then name_in (as_str value)
 -- so many bytes in hexadecimal
 abbrev pub sized : ℕ → Data → Option (List ℕ)
 sized count value = option_and_then (λ text. result_ok (decode_sized text count)) (as_str value)
+
+-- a hash of 32 bytes in hexadecimal, where the key may be left out
+abbrev pub hash : Data → Option (Option (List ℕ))
+hash value = option_map (λ bytes. Some bytes) (sized 32 value)
 
 abbrev pub uncompressed : List ℕ → Option (List ℕ)
 uncompressed bytes = if slice_index bytes 0 == 4 then Some bytes else None

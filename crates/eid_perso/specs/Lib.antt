@@ -4,4 +4,7 @@ pub mod Config
 pub mod Image
 pub mod Forms
 pub mod Keys
+pub mod Kit
+pub mod KitKeys
+pub mod Issuing
 pub mod Reading

@@ -9,6 +9,8 @@ use Rattle.eid_perso.specs.declared.config.ConfigError.{ConfigError}
 use Rattle.eid_perso.specs.declared.config.ConfigError.TheVariants.{Bad, NoMemory}
 use Rattle.eid_perso.specs.Config.{PlainConfig}
 use Rattle.eid_perso.specs.Keys.{config_in, or_refused}
+use Rattle.eid_perso.specs.Kit.{PlainKit}
+use Rattle.eid_perso.specs.KitKeys.{kit_in}
 
 abbrev pub IsRefusedBy : {Y : Type 0} → Result Y ℕ → ConfigError → Type 0
 IsRefusedBy read (Bad key) = read ≡ Err key
@@ -34,3 +36,7 @@ of_document says text = document_in text >>= says
 -- the configuration that a text says
 unfoldable pub config_of : List ℕ → Result PlainConfig ℕ
 config_of text = of_document config_in text
+
+-- what the text says of a test certificate
+unfoldable pub kit_of_text : List ℕ → Result PlainKit ℕ
+kit_of_text text = of_document kit_in text

@@ -224,6 +224,32 @@ impl<const N: usize> Form for Hex<N> {
     }
 }
 
+/// A hash of 32 bytes in hexadecimal, where the key may be left out.
+#[derive(Drop)]
+pub struct Hash;
+
+impl Form for Hash {
+    ghost use Rattle.std.specs.Prelude.{ℕ, List, length};
+    ghost use Rattle.eid_perso.specs.Forms.{hash};
+
+    type Read = Option<[u8; 32]>;
+
+    ghost Plain = { Option (List ℕ) };
+
+    ghost plain = { λ hash. hash };
+
+    ghost gives = { λ form value. hash value };
+
+    ghost valid = { λ form hash. IfSome hash (λ bytes. length bytes ≡ 32) };
+
+    fn read(&self, value: &Value) -> Option<Option<[u8; 32]>> {
+        match forms::sized::<32>(value) {
+            Some(hash) => Some(Some(hash)),
+            None => None,
+        }
+    }
+}
+
 /// The five bytes of a template in hexadecimal.
 #[derive(Drop)]
 pub struct Rights;

@@ -1,14 +1,21 @@
 //! Reading a configuration.
 ghost use Rattle.std.specs.Prelude.{◌≡◌, IfOk};
 ghost use Rattle.toml.specs.View.{table_view};
+ghost use Rattle.eid_cvc.specs.View.{body_view};
+ghost use Rattle.eid_cvc.specs.Writing.{IsWritable};
 ghost use Rattle.eid_perso.specs.Config.{IsWhole, config_view};
 ghost use Rattle.eid_perso.specs.Keys.{config_in};
-ghost use Rattle.eid_perso.specs.Reading.{Reads, config_of, document_in};
+ghost use Rattle.eid_perso.specs.Kit.{kit_view};
+ghost use Rattle.eid_perso.specs.KitKeys.{kit_in};
+ghost use Rattle.eid_perso.specs.Reading.{Reads, config_of, document_in, kit_of_text};
 
 use crate::config::{Config, ConfigError};
 use crate::files::read_files;
 use crate::form::required;
 use crate::keys::{DATE, counters, current, passwords, previous, secrets, start};
+use crate::kit::KitPlan;
+use crate::kit_keys::{SIGNER_SECRET, parties, rights, sectors};
+use eid_cvc::CertificateBody;
 use eid_record::Record;
 use std::alloc::Global;
 use toml::Table;
@@ -53,6 +60,28 @@ fn config_of(alloc: Global, table: &Table) -> Result<Config, ConfigError>
     })
 }
 
+/// The test certificate of a table.
+#[tactic(auto, unfolding(crate::specs::KitKeys::kit_in))]
+fn kit_of_table(table: &Table) -> Result<KitPlan, ConfigError>
+    ensures reads { Reads kit_view result (kit_in (table_view table.now)) }
+    ensures writable { IfOk result (λ k. IsWritable (body_view k.body)) }
+{
+    let (issuer, holder, key) = parties(table)?;
+    let (template, effective, expiry) = rights(table)?;
+    let sectors = sectors(table)?;
+    let signer = required(table, &SIGNER_SECRET)?;
+    let body = CertificateBody {
+        issuer,
+        key,
+        holder,
+        template,
+        effective,
+        expiry,
+        sectors,
+    };
+    Ok(KitPlan { body, signer })
+}
+
 /// The table that a TOML text writes. Key 0 is refused where there is none.
 #[tactic(auto, using(crate::proofs::Documents::too_long, crate::proofs::Documents::no_text, crate::proofs::Documents::no_table, crate::proofs::Documents::document))]
 fn read_document(alloc: Global, text: &[u8]) -> Result<Table, ConfigError>
@@ -84,4 +113,18 @@ pub fn read_config(alloc: Global, text: &[u8]) -> Result<Config, ConfigError>
 {
     let table = read_document(alloc, text)?;
     config_of(alloc, &table)
+}
+
+/// What a TOML text says of a test certificate in one flat table; other keys are passed over. Hexadecimal is read in both
+/// cases. The keys and their forms are this project's own.
+///
+/// # Errors
+/// As `read_config`.
+#[tactic(auto, unfolding(crate::specs::Reading::kit_of_text))]
+pub fn read_kit(alloc: Global, text: &[u8]) -> Result<KitPlan, ConfigError>
+    ensures reads { Reads kit_view result (kit_of_text text.now) }
+    ensures writable { IfOk result (λ k. IsWritable (body_view k.body)) }
+{
+    let table = read_document(alloc, text)?;
+    kit_of_table(&table)
 }

@@ -15,6 +15,16 @@ const REFUSED: &str =
 const SILENT: &str =
     "apdu 00a4040c09e80704007f00070302\n plain none\n finished 0\n rule 0\n answer none\n sent none\n";
 
+/// A configuration of a certificate.
+const VERIFIER: &str = "issuer = 'DECVCAAT00001'
+holder = 'DETESTDV00001'
+key = '0400000000000000000000000000000000000000000000000000000000000000550000000000000000000000000000000000000000000000000000000000000000'
+template = 'BE1FFFFF37'
+effective = '260101'
+expiry = '261231'
+signer_secret = '0000000000000000000000000000000000000000000000000000000000000007'
+";
+
 /// The texts that lie in the folder of a call, by name. Beside them lie `image`, its front `short` of 65,535 bytes,
 /// the configuration `chip` of another image, `long`, which is 1,048,577 empty lines, and `text`, which a call brings.
 const TEXTS: &[(&str, &str)] = &[
@@ -27,6 +37,9 @@ const TEXTS: &[(&str, &str)] = &[
     ("no_pin", "can = '654321'\npuk = '0123456789'\n"),
     ("layout_2", "layout = 2\ncan = '654321'\n"),
     ("pin_twice", "pin = '123456'\npin = '123456'\n"),
+    ("verifier", VERIFIER),
+    ("no_issuer", "holder = 'DETESTDV00001'\n"),
+    ("issuer_twice", "issuer = 'A'\nissuer = 'A'\n"),
 ];
 
 /// Calls: what each shows, its words, the status that it ends with, the line or key that it names, and what it prints.
@@ -38,8 +51,10 @@ const CALLS: &[(&str, &str, u8, u32, &str)] = &[
     ("the greatest start", "run image script 18446744073709551615", 0, 0, "on 0\noff\n"),
     ("`replay` runs with answers", "replay image script answers", 0, 0, "on 0\noff\n"),
     ("`make` makes an image", "make chip new", 0, 0, ""),
+    ("`kit` makes a certificate", "kit verifier new", 0, 0, ""),
     ("`show` prints sixteen lines", "show image", 0, 0, SHOWN),
     ("two words are no run", "run image", 1, 0, ""),
+    ("one word is no `kit`", "kit verifier", 1, 0, ""),
     ("a start with a leading zero", "run image script 00", 1, 0, ""),
     ("a start of 2^64", "run image script 18446744073709551616", 1, 0, ""),
     ("an image of 65,535 bytes", "run short script 0", 4, 0, ""),
@@ -52,6 +67,10 @@ const CALLS: &[(&str, &str, u8, u32, &str)] = &[
     ("a configuration without pin", "make no_pin new", 6, 3, ""),
     ("the first refused key decides", "make layout_2 new", 6, 1, ""),
     ("a key that stands twice", "make pin_twice new", 6, 0, ""),
+    ("a certificate without configuration", "kit absent new", 2, 0, ""),
+    ("a configuration of a certificate that is too long", "kit long new", 6, 0, ""),
+    ("a certificate without issuer", "kit no_issuer new", 6, 1, ""),
+    ("a key of a certificate that stands twice", "kit issuer_twice new", 6, 0, ""),
 ];
 
 /// Calls over a folder and a sink of which one call fails, 0 for none: what each shows, its words, these two calls, the
@@ -72,6 +91,9 @@ const FAULTS: &[(&str, &str, u32, u32, u8, &str)] = &[
     ("the configuration is not read", "make chip image", 1, 0, 2, ""),
     ("the image of a configuration is not written", "make chip image", 2, 0, 2, ""),
     ("`make` has two calls of the folder and none of the sink", "make chip new", 3, 1, 0, ""),
+    ("the configuration of a certificate is not read", "kit verifier image", 1, 0, 2, ""),
+    ("the certificate is not written", "kit verifier image", 2, 0, 2, ""),
+    ("`kit` has two calls of the folder and none of the sink", "kit verifier new", 3, 1, 0, ""),
     ("the image to be shown is not read", "show image", 1, 0, 2, ""),
     ("the text is not printed", "show image", 0, 1, 7, ""),
 ];
@@ -98,6 +120,34 @@ const REFUSALS: &[(&str, u8, &str, u32)] = &[
     ("answers: a challenge of 10 bytes", 8, "challenge 374708fff7719dd5979e\nfault\n", 1),
     ("answers: a space at the end", 8, "fault \n", 1),
 ];
+
+/// The keys of a certificate in the order of their numbers, from 1: each with a value, a value that is refused, and
+/// whether it has to be there.
+#[rattlefmt::skip]
+const KIT_KEYS: &[(&str, &str, &str, bool)] = &[
+    ("issuer", "'A'", "''", true),
+    ("holder", "'0123456789abcdef'", "'0123456789abcdefg'", true),
+    ("key", "'0400000000000000000000000000000000000000000000000000000000000000550000000000000000000000000000000000000000000000000000000000000000'", "'0200000000000000000000000000000000000000000000000000000000000000550000000000000000000000000000000000000000000000000000000000000000'", true),
+    ("template", "'be1fffff37'", "'be1fffff3'", true),
+    ("effective", "'260101'", "'260001'", true),
+    ("expiry", "'261231'", "'261232'", true),
+    ("sector1", "'000102030405060708090A0B0C0D0E0F101112131415161718191A1B1C1D1E1F'", "''", false),
+    ("sector2", "'0000000000000000000000000000000000000000000000000000000000000000'", "'00'", false),
+    ("signer_secret", "'0000000000000000000000000000000000000000000000000000000000000007'", "7", true),
+];
+
+/// The configuration of a certificate in which one key, by its place in the table, has its refused value or is absent.
+fn kit_without(rt: &HostRuntime, place: usize, wrong: bool) -> Result<String, AllocError> {
+    let mut text = String::new(rt.alloc());
+    for (i, (key, value, refused, _)) in KIT_KEYS.iter().enumerate() {
+        if i != place {
+            text.push_str(&format!(in rt.alloc(); "{key} = {value}\n")?)?;
+        } else if wrong {
+            text.push_str(&format!(in rt.alloc(); "{key} = {refused}\n")?)?;
+        }
+    }
+    Ok(text)
+}
 
 /// The folder of a call, of which one call fails.
 fn folder_of_call(
@@ -191,6 +241,22 @@ fn a_refused_text_is_named_by_its_first_bad_line(rt: HostRuntime) -> Result<(), 
         };
         let end = called(&rt, said, text, (0, 0))?;
         assert!(rt; is_so(&end, *status, *line, ""), "{shows}");
+    }
+    Ok(())
+}
+
+#[test]
+fn a_certificate_is_refused_by_the_number_of_its_key(rt: HostRuntime) -> Result<(), Fail> {
+    for (place, (key, _, _, required)) in KIT_KEYS.iter().enumerate() {
+        let number = place as u32 + 1;
+        let wrong = called(&rt, "kit text image", &kit_without(&rt, place, true)?, (0, 0))?;
+        assert!(rt; is_so(&wrong, 6, number, ""), "{key} with a refused value");
+        let absent = called(&rt, "kit text image", &kit_without(&rt, place, false)?, (0, 0))?;
+        if *required {
+            assert!(rt; is_so(&absent, 6, number, ""), "without {key}");
+        } else {
+            assert!(rt; absent.exit.status() == 0 && !absent.kept, "{key} may be absent");
+        }
     }
     Ok(())
 }

@@ -3,3 +3,6 @@ use Rattle.eid.proofs.program.carry_out.Goals as goal
 
 pub returns-in-Make-clause-meets : goal.returns-in-Make-clause-meets
 returns-in-Make-clause-meets g c = rw c.in-Make.is (c.make.ensures.meets (g.K.Sink.seen c.args.out.now))
+
+pub returns-in-Kit-clause-meets : goal.returns-in-Kit-clause-meets
+returns-in-Kit-clause-meets g c = rw c.in-Kit.is (c.kit.ensures.meets (g.K.Sink.seen c.args.out.now))
