@@ -127,7 +127,12 @@ const REFUSALS: &[(&str, u8, &str, u32)] = &[
 const KIT_KEYS: &[(&str, &str, &str, bool)] = &[
     ("issuer", "'A'", "''", true),
     ("holder", "'0123456789abcdef'", "'0123456789abcdefg'", true),
-    ("key", "'0400000000000000000000000000000000000000000000000000000000000000550000000000000000000000000000000000000000000000000000000000000000'", "'0200000000000000000000000000000000000000000000000000000000000000550000000000000000000000000000000000000000000000000000000000000000'", true),
+    (
+        "key",
+        "'0400000000000000000000000000000000000000000000000000000000000000550000000000000000000000000000000000000000000000000000000000000000'",
+        "'0200000000000000000000000000000000000000000000000000000000000000550000000000000000000000000000000000000000000000000000000000000000'",
+        true,
+    ),
     ("template", "'be1fffff37'", "'be1fffff3'", true),
     ("effective", "'260101'", "'260001'", true),
     ("expiry", "'261231'", "'261232'", true),
@@ -249,13 +254,26 @@ fn a_refused_text_is_named_by_its_first_bad_line(rt: HostRuntime) -> Result<(), 
 fn a_certificate_is_refused_by_the_number_of_its_key(rt: HostRuntime) -> Result<(), Fail> {
     for (place, (key, _, _, required)) in KIT_KEYS.iter().enumerate() {
         let number = place as u32 + 1;
-        let wrong = called(&rt, "kit text image", &kit_without(&rt, place, true)?, (0, 0))?;
+        let wrong = called(
+            &rt,
+            "kit text image",
+            &kit_without(&rt, place, true)?,
+            (0, 0),
+        )?;
         assert!(rt; is_so(&wrong, 6, number, ""), "{key} with a refused value");
-        let absent = called(&rt, "kit text image", &kit_without(&rt, place, false)?, (0, 0))?;
+        let absent = called(
+            &rt,
+            "kit text image",
+            &kit_without(&rt, place, false)?,
+            (0, 0),
+        )?;
         if *required {
             assert!(rt; is_so(&absent, 6, number, ""), "without {key}");
         } else {
-            assert!(rt; absent.exit.status() == 0 && !absent.kept, "{key} may be absent");
+            assert!(rt;
+                absent.exit.status() == 0 && !absent.kept,
+                "{key} may be absent"
+            );
         }
     }
     Ok(())

@@ -1,12 +1,11 @@
 -- The model coprocessor signs as the definition says.
-use Rattle.std.proofs.Common.{◌≡◌, ℕ, List, Result, Ok, Err, sym, ap, ◌∙◌, subst}
+use Rattle.std.proofs.Common.{◌≡◌, ℕ, List, Result, Ok, Err, ap, ◌∙◌, subst}
 use Rattle.std.specs.Prelude.{IfOk, Vec}
 use Rattle.std.specs.declared.alloc.Global.{Global}
 use Rattle.eid_copro.specs.Asked.{Asked}
 use Rattle.eid_copro.specs.Model.{answer_with}
 use Rattle.eid_copro.specs.Seen.{CoproSeen}
 use Rattle.eid_copro.specs.Told.{Told, Start, IsAsTold}
-use Rattle.eid_copro.specs.declared.ask.Answer.{Answer}
 use Rattle.eid_copro.specs.declared.ask.Answer.TheVariants as answers
 use Rattle.eid_cvc.specs.Certificates.{IsCertificate}
 use Rattle.eid_cvc.specs.Writing.{certificate_with, written_certificate}
