@@ -3,6 +3,7 @@
 //! as they are; what is no question is answered by `?`.
 #![tactic(auto)]
 
+mod certificates;
 mod channels;
 mod ciphers;
 mod configurations;
@@ -135,6 +136,8 @@ fn about_value(alloc: Global, question: &str, given: &[Vec<u8>]) -> Answer {
         "date" => templates::date(alloc, given),
         "template" => templates::template(alloc, given),
         "identifier" => templates::identifier(alloc, given),
+        "certificate" => certificates::certificate(alloc, given),
+        "write-certificate" => certificates::write_certificate(alloc, given),
         "select" => passwords::select(alloc, given),
         _ => Err(Unanswered::Unclear),
     }
