@@ -6,13 +6,16 @@ use eid_tlv::{Tlv, next};
 
 /// The value of the object at the front, and the bytes behind the object.
 #[derive(Clone, Copy)]
-pub(crate) struct AtFront<'a> {
-    pub(crate) value: &'a [u8],
-    pub(crate) rest: &'a [u8],
+pub struct AtFront<'a> {
+    /// The object's value.
+    pub value: &'a [u8],
+    /// What stands behind the object.
+    pub rest: &'a [u8],
 }
 
-/// What stands at the front, where it is an object with this tag.
-pub(crate) fn front(bytes: &[u8], tag: u16) -> Option<AtFront<'_>>
+/// What stands at the front, where it is an object with this tag. `None` comes exactly where none stands there, also
+/// where the bytes end before it does.
+pub fn front(bytes: &[u8], tag: u16) -> Option<AtFront<'_>>
     ensures { option_map front_view result ≡ front_in tag bytes.now }
 {
     let Ok((object, rest)) = next(bytes) else {

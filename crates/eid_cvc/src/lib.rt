@@ -14,6 +14,7 @@ mod writing;
 
 pub use certificate::{Certificate, CertificateBody, CvcError};
 pub use chain::{Aux, ChainState, Party, TerminalKnown};
+pub use fronts::{AtFront, front};
 pub use public_key::{law_public_key, read_public_key};
 pub use reading::{law_certificate, law_one_certificate, read_certificate};
 pub use template::{law_template, read_template};
