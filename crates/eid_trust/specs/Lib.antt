@@ -1,0 +1,2 @@
+pub mod Trust
+pub mod View
