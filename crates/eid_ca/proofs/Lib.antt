@@ -1,0 +1,4 @@
+pub mod Unasked
+pub mod Twice
+pub mod Tokens
+pub mod Named

@@ -1,0 +1,5 @@
+pub mod SectorKeys
+pub mod SectorKeysIn
+pub mod Identifiers
+pub mod Parts
+pub mod View

@@ -1,0 +1,4 @@
+mod ObjectFacts
+mod AuxiliaryFacts
+mod EntryFacts
+mod AnnouncementFacts

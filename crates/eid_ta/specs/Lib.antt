@@ -1,0 +1,11 @@
+pub mod Rules
+pub mod States
+pub mod Objects
+pub mod AuxiliaryIn
+pub mod AnnouncementIn
+pub mod Auxiliary
+pub mod Announcements
+pub mod Announcing
+pub mod ChallengeEnds
+pub mod VerifyEnds
+pub mod View
