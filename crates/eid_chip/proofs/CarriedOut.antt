@@ -14,9 +14,8 @@ use Rattle.eid_chip.specs.declared.session.Memory.{Memory}
 use Rattle.eid_chip.specs.declared.session.Session.{Session}
 use Rattle.eid_chip.specs.declared.session.Run.TheVariants as runs
 use Rattle.eid_chip.specs.declared.reaction.Reaction.{Reaction}
-use Rattle.eid_chip.specs.States.{state, memory, phase_of, next_of}
+use Rattle.eid_chip.specs.States.{state, phase_of, next_of}
 use Rattle.eid_chip.specs.Steps.{IsAnsweredByKind, known}
-use Rattle.eid_model.specs.Runs as phases
 use Rattle.eid_chip.specs.Transitions.{state_carried_out, two_messages_later}
 
 -- no question, whatever the rules say
@@ -25,14 +24,14 @@ unasked_at true q e = e
 unasked_at false q e = refl
 
 -- the state of a session without a run
-pub idle_state : (s : Session) (m : Memory) (channel : Option ChannelState) → s.run ≡ runs.Idle → s.memory ≡ m → state s channel ≡ record { next = None; phase = phases.Idle; selected = m.selected; current = option_map (λ file. file.0) m.current; pace = option_map memory m.pace; channel = channel; chaining = None }
+pub idle_state : (s : Session) (m : Memory) (channel : Option ChannelState) → s.run ≡ runs.Idle → s.memory ≡ m → state s channel ≡ state (record { run = runs.Idle; memory = m }) channel
 idle_state s m channel run kept =
     let phase = ap phase_of run in
     let next = ap next_of run in
     rw (phase, next, kept) refl
 
 -- a command of a kind without questions that fails no rule
-pub carried : (kind : Kind) (kept : FullRecord) (old : State) (c : PlainCommand) (r : Reaction) (reply : PlainReply) → question_of (Some kind) (known kind kept old c []) ≡ None → first_failed (kind_rules ++ answer_rules ++ commit_rules ++ proof_rules) (known kind kept old c []) ≡ None → r.rule.0 ≡ 0 → r.opened ≡ None → reply ≡ success_of kind (known kind kept old c []) → state r.session (option_map two_messages_later old.channel) ≡ state_carried_out kind c [] old → IsAnsweredByKind kind kept old c [] r reply
+pub carried : (kind : Kind) (kept : FullRecord) (old : State) (c : PlainCommand) (r : Reaction) (reply : PlainReply) → question_of (Some kind) (known kind kept old c []) ≡ None → first_failed (kind_rules ++ answer_rules ++ commit_rules ++ proof_rules) (known kind kept old c []) ≡ None → r.rule.0 ≡ 0 → r.opened ≡ None → reply ≡ success_of kind (known kind kept old c []) → state r.session (option_map two_messages_later old.channel) ≡ state_carried_out kept.fields kind c [] old → IsAnsweredByKind kind kept old c [] r reply
 carried kind kept old c r reply silent passes rule opened answered left = record {
   asked = unasked_at (is_none (first_failed (kind_rules ++ answer_rules) (known kind kept old c []))) _ silent;
   ended = ap (λ (f : Option RuleRow). outcome_by f (known kind kept old c [])) passes ∙ cc;

@@ -14,9 +14,9 @@ use Rattle.eid_store.specs.declared.store.Store.{Store}
 use Rattle.eid_store.specs.Stands.{stands}
 use Rattle.eid_store.specs.Store as stored
 use Rattle.eid_model.specs.Moments.{PoweredOn, PoweredOff, Received, PlainMoment, on, ends_session_by}
-use Rattle.eid_model.specs.Sessions.{State, state_of, fresh}
+use Rattle.eid_model.specs.Sessions.{State, fresh}
 use Rattle.eid_model.specs.Legal.{IsReadAs, IsLegalMoment, answered, lost_in, sent_in, silent}
-use Rattle.eid_model.specs.Ledger.{books, kept, pending, MayHold}
+use Rattle.eid_model.specs.Ledger.{account, kept, pending, state_of, MayHold}
 use Rattle.eid_model.specs.Rules.{Incoming, plain_of}
 use Rattle.eid_model.proofs.Books.{on_pends_nothing, stood_silent, stood_off, stood_cut, stood_on}
 use Rattle.eid_model.proofs.Ledgers.{nothing_committed}
@@ -151,6 +151,7 @@ cut_follows old new off cells opening before fits = (
 
 -- a power-on that found this number, which is the one of the record that the cells stand for
 pub on_follows : (old new : Scene) (store : Store) (number : ℕ) → new.chip.running ≡ Some (record { store = store; state = fresh }) → stored.Fits store new.device new.cells → stands new.cells ≡ stands old.cells → number ≡ (stored.fields_of store).number → Follows old new (silent (PoweredOn (Some number)))
+unfolding account
 on_follows old new store number is fits cells number_is opening before before_fits =
     let found = stood_for store new.device new.cells fits in
     let full = found.0 in
@@ -168,7 +169,7 @@ on_follows old new store number is fits cells number_is opening before before_fi
 
 -- a chip without power fits each journal without moments
 pub new_fits : (s : Scene) (opening : FullRecord) → s.chip.running ≡ None → stands s.cells ≡ Some opening → Fits s opening []
-unfolding books
+unfolding account
 new_fits s opening off standing = record {
   powered = ap is_some off;
   sound = subst (λ (l : Option RunningView). IsSoundRunning l s.device s.cells) (sym off) tt;

@@ -7,23 +7,30 @@ use Rattle.eid_apdu.specs.Chaining.{OpenChain, chain_after, is_fragment, request
 use Rattle.eid_apdu.specs.declared.chain.Fed.TheVariants.{More}
 use Rattle.eid_copro.specs.declared.ask.Ask.{Ask}
 use Rattle.eid_copro.specs.declared.ask.Answer.{Answer}
-use Rattle.eid_record.specs.Plain.{FullRecord, PlainEffect}
+use Rattle.eid_record.specs.Plain.{FullRecord, PlainRecord, PlainEffect}
+use Rattle.eid_bits.specs.Rights.{role_of}
+use Rattle.eid_bits.specs.declared.template.Role.{Role}
+use Rattle.eid_bits.specs.declared.template.Role.TheVariants.{Cvca, Domestic, Foreign, Terminal}
+use Rattle.eid_cvc.specs.Certificates.{PlainBody}
+use Rattle.eid_cvc.specs.Chains.{PlainChain}
+use Rattle.eid_trust.specs.Trust.{chain_with}
 use Rattle.eid_store.specs.Stands.{stands}
 use Rattle.eid_pace.specs.States.{PlainDone}
 use Rattle.eid_sm.specs.Keys.{Keys, ChannelState, next_counter}
 use Rattle.eid_model.specs.declared.kind.Kind.{Kind}
-use Rattle.eid_model.specs.declared.kind.Kind.TheVariants.{SelectApplication, SelectMasterFile, SelectFile, ReadBinary, SelectPace, EncryptedNonce, MapNonce, PerformKeyAgreement, MutualAuthentication, ChangePin, UnblockPin, NoStep}
+use Rattle.eid_model.specs.declared.kind.Kind.TheVariants.{SelectApplication, SelectMasterFile, SelectFile, ReadBinary, SelectPace, SelectPublicKey, VerifyCertificate, EncryptedNonce, MapNonce, PerformKeyAgreement, MutualAuthentication, ChangePin, UnblockPin, NoStep}
 use Rattle.eid_model.specs.Kinds.{kind_in_table, step_after}
-use Rattle.eid_model.specs.Chains.{chain_of, chaining, more_pieces, pieces}
+use Rattle.eid_model.specs.Chains.{chain_of, chaining, more_pieces, pieces, request_of}
 use Rattle.eid_model.specs.Moments.{PlainMoment, on, live, ends_session_by}
-use Rattle.eid_model.specs.Runs.{Step, Phase, Idle, continued, next, phase, entered, run, answers_of}
-use Rattle.eid_model.specs.Sessions.{State, PaceMemory, state_in, state_of, fresh, selects, names, selection, naming, selected, current, pace, pace_done, pace_by, memory_of, keys_of, channel_keys, commands_since_opening, channel_after, channel}
+use Rattle.eid_model.specs.Runs.{Step, Phase, Idle, is_piece_of_next, continued, next, phase, entered, run, answers_of}
+use Rattle.eid_model.specs.Sessions.{State, PaceMemory, Accepted, accepts, accepted_by, accepted_behind, chain_left, kind_of_moment, pace_completed, state_in, selects, names, selection, naming, selected, current, pace, pace_done, pace_by, memory_of, keys_of, channel_keys, commands_since_opening, channel_after, channel}
 use Rattle.eid_model.specs.Rules.{Incoming, NoCommand, MissingObjects, WrongObjects, OfCommand, Situation}
 use Rattle.eid_model.specs.Answers.{Outcome, outcome, question, due, situation, kind_incoming, command_of, no_command}
 use Rattle.eid_model.specs.Legal.{IsReadAs, AreAsked, IsHandled, answered, lost_in, situation_after}
-use Rattle.eid_model.specs.Ledger.{kept, pending, first_of, all_committed, MayHold}
+use Rattle.eid_model.specs.Ledger.{account, accepted, kept, pending, state_of, first_of, all_committed, MayHold}
+use Rattle.eid_model.proofs.Ledgers.{AreEntered}
 use Rattle.eid_model.proofs.Books.{due_entered, due_incoming, stood_answered, stood_lost}
-use Rattle.eid_chip.specs.Transitions.{state_answered, state_carried_out, state_refused, two_messages_later}
+use Rattle.eid_chip.specs.Transitions.{chain_behind, state_answered, state_carried_out, state_later, state_piece, state_refused, two_messages_later}
 use Rattle.eid_apdu.specs.Answer.{PlainReply}
 use Rattle.eid_chip.specs.declared.reaction.Reaction.{Reaction}
 use Rattle.eid_chip.specs.declared.reaction.Ending.TheVariants.{Answered, Lost}
@@ -62,6 +69,8 @@ run_next SelectMasterFile c answers steps = refl
 run_next SelectFile c answers steps = refl
 run_next ReadBinary c answers steps = refl
 run_next SelectPace c answers steps = refl
+run_next SelectPublicKey c answers steps = refl
+run_next VerifyCertificate c answers steps = refl
 run_next EncryptedNonce c answers steps = refl
 run_next MapNonce c answers steps = refl
 run_next PerformKeyAgreement c answers steps = refl
@@ -77,6 +86,8 @@ run_phase SelectMasterFile c answers steps = refl
 run_phase SelectFile c answers steps = refl
 run_phase ReadBinary c answers steps = refl
 run_phase SelectPace c answers steps = refl
+run_phase SelectPublicKey c answers steps = refl
+run_phase VerifyCertificate c answers steps = refl
 run_phase EncryptedNonce c answers steps = refl
 run_phase MapNonce c answers steps = refl
 run_phase PerformKeyAgreement c answers steps = refl
@@ -85,107 +96,153 @@ run_phase ChangePin c answers steps = refl
 run_phase UnblockPin c answers steps = refl
 run_phase NoStep c answers steps = refl
 
+-- ---- the certificates
+
+chain_with_role : (role : Role) (kept : PlainRecord) (c : PlainBody) (before : List Accepted) → role_of c.template ≡ role
+    → chain_left (record { kept = kept; certificate = c } ∷ before) ≡ chain_with role kept (chain_left before) c
+chain_with_role Cvca kept c before is = rw is refl
+chain_with_role Domestic kept c before is = rw is (rw is refl)
+chain_with_role Foreign kept c before is = rw is (rw is refl)
+chain_with_role Terminal kept c before is = rw is (rw is refl)
+
+-- the chain after a command, which may have completed a PACE, or accepted a certificate
+chain_more : (kept : PlainRecord) (done : Option PlainDone) (certificate : Option PlainBody) (before : List Accepted)
+    → chain_left (accepted_behind kept done certificate before) ≡ chain_behind kept done certificate (chain_left before)
+chain_more kept None None before = refl
+chain_more kept None (Some c) before = chain_with_role (role_of c.template) kept c before refl
+chain_more kept (Some done) certificate before = refl
+
 -- ---- one moment more
 
 -- the channel after a command that opened one with these keys, or none
 abbrev channel_with : ℕ → Option Keys → Option Keys → Option ChannelState
 channel_with n found last = option_map (channel_after (if is_some found then 0 else n + 1)) (option_or found last)
 
+-- the run after a request of this kind was carried out, this fragment taken, or neither
+abbrev run_more : Option Kind → Option PlainCommand → List Answer → Option PlainCommand → List Step → List Step
+run_more kind whole answers piece steps = if is_piece_of_next (next steps) piece then steps else continued kind whole answers steps
+
+-- the certificates that count then
+abbrev accepted_now : PlainRecord → Option Kind → Option PlainCommand → List PlainMoment → List Accepted → List Accepted
+accepted_now kept kind whole session before = accepted_behind kept (pace_by kind (phase (run session))) (accepted_by kind whole) before
+
 -- what a session's moments leave, with one moment more that carried out a request of this kind, took this fragment, or neither
-abbrev more : Option Kind → Option PlainCommand → List Answer → Option PlainCommand → List PlainMoment → State
-more kind whole answers piece session = record {
-  next = next (continued kind whole answers (run session));
-  phase = phase (continued kind whole answers (run session));
+abbrev more : PlainRecord → List Accepted → Option Kind → Option PlainCommand → List Answer → Option PlainCommand → List PlainMoment → State
+more kept before kind whole answers piece session = record {
+  next = next (run_more kind whole answers piece (run session));
+  phase = phase (run_more kind whole answers piece (run session));
   selected = unwrap_or (selection kind) (selected session);
   current = if is_some (selection kind) then None else option_or (naming kind whole) (current session);
   pace = option_map memory_of (option_or (pace_by kind (phase (run session))) (pace session));
+  certificates = chain_left (accepted_now kept kind whole session before);
   channel = channel_with (commands_since_opening session) (option_map keys_of (pace_by kind (phase (run session)))) (channel_keys session);
   chaining = chain_of (more_pieces piece (pieces session));
 }
 
--- the state after a refusal, with the chain that these fragments are
-abbrev refused_with : List PlainCommand → State → State
-refused_with fragments old = chained (chain_of fragments) (state_refused old)
+-- the state after a command without a kind, with its run or without one
+abbrev unkinded : Bool → State → State
+unkinded stays old = if stays then state_later old else state_refused old
 
-more_none : (whole : Option PlainCommand) (answers : List Answer) (piece : Option PlainCommand) (session : List PlainMoment)
-    → more None whole answers piece session ≡ refused_with (more_pieces piece (pieces session)) (state_in session)
-more_none whole answers piece session =
-    ap (λ (c : Option ChannelState). record {
-      next = None;
-      phase = Idle;
-      selected = selected session;
-      current = current session;
-      pace = option_map memory_of (pace session);
-      channel = c;
-      chaining = chain_of (more_pieces piece (pieces session));
-    }) (later_channel (commands_since_opening session) (channel_keys session))
+-- with these fragments
+abbrev left_with : List PlainCommand → State → State
+left_with fragments s = chained (chain_of fragments) s
 
-abbrev made : Option Kind → Phase → Bool → Option ℕ → Option PaceMemory → Option ChannelState → State
-made a b s d e f = record { next = a; phase = b; selected = s; current = d; pace = e; channel = f; chaining = None }
+more_none : (stays : Bool) (kept : PlainRecord) (before : List Accepted) (whole : Option PlainCommand) (answers : List Answer) (piece : Option PlainCommand) (session : List PlainMoment)
+    → is_piece_of_next (next (run session)) piece ≡ stays
+    → more kept before None whole answers piece session ≡ left_with (more_pieces piece (pieces session)) (unkinded stays (state_in before session))
+more_none true kept before whole answers piece session is =
+    rw is (ap (λ (c : Option ChannelState). record (state_in before session) { channel = c; chaining = chain_of (more_pieces piece (pieces session)) }) (later_channel (commands_since_opening session) (channel_keys session)))
+more_none false kept before whole answers piece session is =
+    rw is (ap (λ (c : Option ChannelState). record (state_in before session) { next = None; phase = Idle; channel = c; chaining = chain_of (more_pieces piece (pieces session)) }) (later_channel (commands_since_opening session) (channel_keys session)))
 
-more_some : (kind : Kind) (c : PlainCommand) (answers : List Answer) (session : List PlainMoment) → more (Some kind) (Some c) answers None session ≡ state_carried_out kind c answers (state_in session)
-more_some kind c answers session =
+abbrev made : Option Kind → Phase → Bool → Option ℕ → Option PaceMemory → PlainChain → Option ChannelState → State
+made a b s d e p f = record { next = a; phase = b; selected = s; current = d; pace = e; certificates = p; channel = f; chaining = None }
+
+no_piece : (kind : Option Kind) → is_piece_of_next kind None ≡ false
+no_piece None = refl
+no_piece (Some kind) = refl
+
+run_some : (kind : Kind) (c : PlainCommand) (answers : List Answer) (steps : List Step) → run_more (Some kind) (Some c) answers None steps ≡ continued (Some kind) (Some c) answers steps
+run_some kind c answers steps = rw (no_piece (next steps)) refl
+
+more_some : (kept : PlainRecord) (before : List Accepted) (kind : Kind) (c : PlainCommand) (answers : List Answer) (session : List PlainMoment)
+    → more kept before (Some kind) (Some c) answers None session ≡ state_carried_out kept kind c answers (state_in before session)
+more_some kept before kind c answers session =
     let found = pace_done kind (phase (run session)) in
     let a = continued (Some kind) (Some c) answers (run session) in
     let chosen : Bool = unwrap_or (selects kind) (selected session) in
     let file : Option ℕ = if is_some (selects kind) then None else option_or (names kind c) (current session) in
     let p = option_map memory_of (option_or found (pace session)) in
+    let chain = chain_left (accepted_now kept (Some kind) (Some c) session before) in
     let keys = option_map keys_of found in
     let ch = channel_with (commands_since_opening session) keys (channel_keys session) in
-    ap (λ x. made x (phase a) chosen file p ch) (run_next kind c answers (run session))
-    ∙ ap (λ x. made (step_after kind) x chosen file p ch) (run_phase kind c answers (run session))
-    ∙ ap (λ x. made (step_after kind) (entered kind c answers (phase (run session))) chosen file x ch) (pace_more found (pace session))
-    ∙ ap (λ x. made (step_after kind) (entered kind c answers (phase (run session))) chosen file (option_or (option_map memory_of found) (option_map memory_of (pace session))) x)
+    let now = option_or (option_map memory_of found) (option_map memory_of (pace session)) in
+    ap (λ (l : List Step). made (next l) (phase l) chosen file p chain ch) (run_some kind c answers (run session))
+    ∙ ap (λ x. made x (phase a) chosen file p chain ch) (run_next kind c answers (run session))
+    ∙ ap (λ x. made (step_after kind) x chosen file p chain ch) (run_phase kind c answers (run session))
+    ∙ ap (λ x. made (step_after kind) (entered kind c answers (phase (run session))) chosen file x chain ch) (pace_more found (pace session))
+    ∙ ap (λ x. made (step_after kind) (entered kind c answers (phase (run session))) chosen file now x ch) (chain_more kept found (accepts kind c) before)
+    ∙ ap (λ x. made (step_after kind) (entered kind c answers (phase (run session))) chosen file now (chain_behind kept found (accepts kind c) (chain_left before)) x)
     (channel_more (commands_since_opening session) keys (channel_keys session))
 
 -- a fragment more in a chain
-chain_more : (c : PlainCommand) (fragments : List PlainCommand) → chain_of (c ∷ fragments) ≡ chain_after (chain_of fragments) c More
-chain_more c [] = refl
-chain_more c (last ∷ before) = refl
+fragments_more : (c : PlainCommand) (fragments : List PlainCommand) → chain_of (c ∷ fragments) ≡ chain_after (chain_of fragments) c More
+fragments_more c [] = refl
+fragments_more c (last ∷ before) = refl
 
 -- what a command leaves, by whether it was answered without a refusal, whether it is a fragment, and its kind
-more_at : (carried is_piece : Bool) (kind : Option Kind) (rule : ℕ) (c : PlainCommand) (answers : List Answer) (session : List PlainMoment)
+more_at : (kept : PlainRecord) (before : List Accepted) (carried is_piece : Bool) (kind : Option Kind) (rule : ℕ) (c : PlainCommand) (answers : List Answer) (session : List PlainMoment)
     → (rule == 0) ≡ carried → is_fragment c ≡ is_piece
-    → more (if carried then (if is_piece then None else kind) else None) (Some (request (chaining session) c)) answers
-    (if carried then (if is_piece then Some c else None) else None) session ≡ state_answered rule (if is_piece then None else kind) c answers (state_in session)
-more_at true true kind rule c answers session done piece =
-    more_none (Some (request (chaining session) c)) answers (Some c) session
-    ∙ ap (λ (o : Option OpenChain). chained o (state_refused (state_in session))) (chain_more c (pieces session) ∙ rw (done, piece) refl)
-more_at true false None rule c answers session done piece =
-    more_none (Some (request (chaining session) c)) answers None session
-    ∙ ap (λ (o : Option OpenChain). chained o (state_refused (state_in session))) (rw (done, piece) refl)
-more_at true false (Some kind) rule c answers session done piece =
-    more_some kind (request (chaining session) c) answers session ∙ rw done refl
-more_at false true kind rule c answers session done piece =
-    more_none (Some (request (chaining session) c)) answers None session
-    ∙ ap (λ (o : Option OpenChain). chained o (state_refused (state_in session))) (rw done refl)
-more_at false false None rule c answers session done piece =
-    more_none (Some (request (chaining session) c)) answers None session
-    ∙ ap (λ (o : Option OpenChain). chained o (state_refused (state_in session))) (rw done refl)
-more_at false false (Some kind) rule c answers session done piece =
-    more_none (Some (request (chaining session) c)) answers None session ∙ rw done refl
+    → more kept before (if carried then (if is_piece then None else kind) else None) (Some (request (chaining session) c)) answers
+    (if carried then (if is_piece then Some c else None) else None) session ≡ state_answered kept rule (if is_piece then None else kind) c answers (state_in before session)
+more_at kept before true true kind rule c answers session done piece =
+    more_none (is_piece_of_next (next (run session)) (Some c)) kept before (Some (request (chaining session) c)) answers (Some c) session refl
+    ∙ ap (λ (o : Option OpenChain). chained o (state_piece c (state_in before session))) (fragments_more c (pieces session)) ∙ rw (done, piece) refl
+more_at kept before true false None rule c answers session done piece =
+    more_none false kept before (Some (request (chaining session) c)) answers None session (no_piece (next (run session))) ∙ rw (done, piece) refl
+more_at kept before true false (Some kind) rule c answers session done piece =
+    more_some kept before kind (request (chaining session) c) answers session ∙ rw done refl
+more_at kept before false true kind rule c answers session done piece =
+    more_none false kept before (Some (request (chaining session) c)) answers None session (no_piece (next (run session))) ∙ rw done refl
+more_at kept before false false None rule c answers session done piece =
+    more_none false kept before (Some (request (chaining session) c)) answers None session (no_piece (next (run session))) ∙ rw done refl
+more_at kept before false false (Some kind) rule c answers session done piece =
+    more_none false kept before (Some (request (chaining session) c)) answers None session (no_piece (next (run session))) ∙ rw done refl
 
 -- no command leaves no fragments
-unread : (carried : Bool) (rule : ℕ) (answers : List Answer) (session : List PlainMoment) → (rule == 0) ≡ carried
-    → more (if carried then None else None) None answers (if carried then None else None) session ≡ state_answered rule None no_command answers (state_in session)
-unread true rule answers session is = more_none None answers None session ∙ rw is refl
-unread false rule answers session is = more_none None answers None session ∙ rw is refl
+unread : (kept : PlainRecord) (before : List Accepted) (carried : Bool) (rule : ℕ) (answers : List Answer) (session : List PlainMoment) → (rule == 0) ≡ carried
+    → more kept before (if carried then None else None) None answers (if carried then None else None) session ≡ state_answered kept rule None no_command answers (state_in before session)
+unread kept before true rule answers session is = more_none false kept before None answers None session (no_piece (next (run session))) ∙ rw is refl
+unread kept before false rule answers session is = more_none false kept before None answers None session (no_piece (next (run session))) ∙ rw is refl
+
+-- the certificates that count after a moment of a session that goes on
+abbrev accepted_then : PlainRecord → PlainMoment → List PlainMoment → List Accepted → List Accepted
+accepted_then kept m session before = accepted_behind kept (pace_completed m session) (accepted_by (kind_of_moment m session) (request_of m session)) before
 
 -- the state of a session with one more moment
-pub state_more : (ch : Option ChannelState) (bytes : List ℕ) (incoming : Incoming) (asks : List Ask) (finished : ℕ) (o : Outcome) (session : List PlainMoment) → state_in (answered ch bytes incoming asks finished o ∷ session) ≡ state_answered o.rule (kind_incoming (state_in session) incoming) (command_of incoming) (answers_of asks) (state_in session)
-state_more ch bytes NoCommand asks finished o session = unread (o.rule == 0) o.rule (answers_of asks) session refl
-state_more ch bytes MissingObjects asks finished o session = unread (o.rule == 0) o.rule (answers_of asks) session refl
-state_more ch bytes WrongObjects asks finished o session = unread (o.rule == 0) o.rule (answers_of asks) session refl
-state_more ch bytes (OfCommand c) asks finished o session =
-    more_at (o.rule == 0) (is_fragment c) (kind_in_table (next (run session)) (request (chaining session) c)) o.rule c (answers_of asks) session refl refl
+pub state_more : (kept : PlainRecord) (before : List Accepted) (ch : Option ChannelState) (bytes : List ℕ) (incoming : Incoming) (asks : List Ask) (finished : ℕ) (o : Outcome) (session : List PlainMoment)
+    → state_in (accepted_then kept (answered ch bytes incoming asks finished o) session before) (answered ch bytes incoming asks finished o ∷ session)
+    ≡ state_answered kept o.rule (kind_incoming (state_in before session) incoming) (command_of incoming) (answers_of asks) (state_in before session)
+state_more kept before ch bytes NoCommand asks finished o session = unread kept before (o.rule == 0) o.rule (answers_of asks) session refl
+state_more kept before ch bytes MissingObjects asks finished o session = unread kept before (o.rule == 0) o.rule (answers_of asks) session refl
+state_more kept before ch bytes WrongObjects asks finished o session = unread kept before (o.rule == 0) o.rule (answers_of asks) session refl
+state_more kept before ch bytes (OfCommand c) asks finished o session =
+    more_at kept before (o.rule == 0) (is_fragment c) (kind_in_table (next (run session)) (request (chaining session) c)) o.rule c (answers_of asks) session refl refl
 
--- the live moments with one more that was answered
-live_more : (ends : Bool) (rule : ℕ) (m : PlainMoment) (before : List PlainMoment) (new : State) → ends_session_by rule ≡ ends → live (m ∷ before) ≡ (if not (not (ends_session_by rule)) then [] else m ∷ live before) → state_in (m ∷ live before) ≡ new
-    → state_due rule new ≡ state_in (live (m ∷ before))
-live_more true rule m before new is lives states =
-    ap (λ (b : Bool). if b then fresh else new) is ∙ sym (ap state_in (lives ∙ ap (λ (b : Bool). if not (not b) then [] else m ∷ live before) is))
-live_more false rule m before new is lives states =
-    ap (λ (b : Bool). if b then fresh else new) is ∙ sym states ∙ sym (ap state_in (lives ∙ ap (λ (b : Bool). if not (not b) then [] else m ∷ live before) is))
+-- the state of a journal with one more moment that was answered
+live_more : (ends : Bool) (rule : ℕ) (m : PlainMoment) (before : List PlainMoment) (then_accepted : List Accepted) (new : State) → ends_session_by rule ≡ ends
+    → state_in then_accepted (m ∷ live before) ≡ new
+    → state_due rule new ≡ state_in (if not (not (ends_session_by rule)) then [] else then_accepted) (if not (not (ends_session_by rule)) then [] else m ∷ live before)
+live_more true rule m before then_accepted new is states = rw is refl
+live_more false rule m before then_accepted new is states = rw is (sym states)
+
+left_more : (opening : FullRecord) (before : List PlainMoment) (ch : Option ChannelState) (bytes : List ℕ) (incoming : Incoming) (asks : List Ask) (finished : ℕ) (o : Outcome) (new : State)
+    → state_in (accepted_then (kept opening before).fields (answered ch bytes incoming asks finished o) (live before) (accepted opening before)) (answered ch bytes incoming asks finished o ∷ live before) ≡ new
+    → state_due o.rule new ≡ state_of opening (answered ch bytes incoming asks finished o ∷ before)
+unfolding account
+left_more opening before ch bytes incoming asks finished o new states =
+    let m : PlainMoment = answered ch bytes incoming asks finished o in
+    live_more (ends_session_by o.rule) o.rule m before (accepted_then (kept opening before).fields m (live before) (accepted opening before)) new refl states
 
 -- cells hold what the books of these moments say
 abbrev pub Holds : FullRecord → List PlainMoment → List ℕ → Type 0
@@ -213,9 +270,10 @@ responded old opening before bytes incoming asks r finished reply left was now p
     same_situation due (held was.cells) full old (state_of opening before) incoming (answers_of asks) same is in
     let ends : outcome_seen r reply ≡ outcome (situation_after opening before incoming (answers_of asks)) =
     sym ended.ended.1 ∙ same_situation outcome (held was.cells) full old (state_of opening before) incoming (answers_of asks) same is in
-    let next_state : state_in (m ∷ live before) ≡ state_answered r.rule.0 (kind_incoming old incoming) (command_of incoming) (answers_of asks) old =
-    state_more old.channel bytes incoming asks finished (outcome_seen r reply) (live before)
-    ∙ ap (λ (s : State). state_answered r.rule.0 (kind_incoming s incoming) (command_of incoming) (answers_of asks) s) (sym is) in
+    let next_state : state_in (accepted_then full.fields m (live before) (accepted opening before)) (m ∷ live before) ≡ state_answered (held was.cells).fields r.rule.0 (kind_incoming old incoming) (command_of incoming) (answers_of asks) old =
+    state_more full.fields (accepted opening before) old.channel bytes incoming asks finished (outcome_seen r reply) (live before)
+    ∙ ap (λ (s : State). state_answered full.fields r.rule.0 (kind_incoming s incoming) (command_of incoming) (answers_of asks) s) (sym is)
+    ∙ ap (λ (k : FullRecord). state_answered k.fields r.rule.0 (kind_incoming old incoming) (command_of incoming) (answers_of asks) old) (sym same) in
     let made : m ≡ answered (channel (live before)) bytes incoming asks (length (due (situation_after opening before incoming (answers_of asks)))) (outcome (situation_after opening before incoming (answers_of asks))) =
     ap (λ (n : ℕ). answered old.channel bytes incoming asks n (outcome_seen r reply)) (ended.ended.0 ∙ ap length due_is)
     ∙ ap (λ (o : Outcome). answered old.channel bytes incoming asks (length (due (situation_after opening before incoming (answers_of asks)))) o) ends
@@ -231,9 +289,9 @@ responded old opening before bytes incoming asks r finished reply left was now p
         unpowered = λ off_is. absurd (cc);
       },
       power,
-      ended.next ∙ live_more (ends_session_by r.rule.0) r.rule.0 m before _ refl refl next_state,
-      stood_answered opening before m bytes reply effects (stands now.cells) refl refl power (due_incoming full opening before incoming m refl ∙ sym due_is) ended.ended.0
-          (due_entered (situation (held was.cells) old incoming (answers_of asks)))
+      ended.next ∙ left_more opening before old.channel bytes incoming asks finished (outcome_seen r reply) _ next_state,
+      stood_answered opening before m bytes reply effects (stands now.cells) refl refl power (due_incoming full (state_of opening before) incoming m refl ∙ sym due_is) ended.ended.0
+          (subst (λ (k : FullRecord). AreEntered k effects) same (due_entered (situation (held was.cells) old incoming (answers_of asks))))
           (ended.leaves.1 ∙ ap (λ (k : FullRecord). Some (all_committed effects k)) same),
     )
 
@@ -259,7 +317,7 @@ was_lost old opening before bytes incoming asks finished reply left was now powe
         };
         unpowered = λ off_is. absurd (cc);
       },
-      stood_lost opening before m bytes effects (stands now.cells) refl refl power (due_incoming full opening before incoming m refl ∙ sym due_is)
-          (due_entered (situation (held was.cells) old incoming (answers_of asks)))
+      stood_lost opening before m bytes effects (stands now.cells) refl refl power (due_incoming full (state_of opening before) incoming m refl ∙ sym due_is)
+          (subst (λ (k : FullRecord). AreEntered k effects) same (due_entered (situation (held was.cells) old incoming (answers_of asks))))
           (subst (λ (k : FullRecord). MayHold (first_of (drop finished effects)) (all_committed (take finished effects) k) (stands now.cells)) same ended.leaves.0),
     )

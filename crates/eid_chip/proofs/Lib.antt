@@ -13,3 +13,4 @@ pub mod Commits
 pub mod PinSteps
 pub mod Management
 pub mod Tries
+pub mod CertificateSteps

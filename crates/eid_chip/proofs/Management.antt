@@ -1,6 +1,6 @@
 -- The management of the PIN: what the last PACE gives the right to.
 use Rattle.std.proofs.Common.{◌≡◌, ℕ, Bool, true, false, ◌==◌, List, [], ◌∷◌, length, Option, Some, None, refl, sym, ap, arith}
-use Rattle.std.specs.Prelude.{is_some, nat_le, option_map}
+use Rattle.std.specs.Prelude.{is_none, is_some, nat_le, option_map, ◌++◌}
 use Rattle.std.proofs.lemmas.Bool.Decides.{nat_tests}
 use Rattle.eid_apdu.specs.Command.{PlainCommand}
 use Rattle.eid_record.specs.Plain.{FullRecord, SetPin, Unblock}
@@ -8,7 +8,8 @@ use Rattle.eid_record.specs.declared.fields.Password.{Password}
 use Rattle.eid_record.specs.declared.fields.Password.TheVariants.{Can, Pin, Puk}
 use Rattle.eid_password.specs.Passwords.{is_pin, is_puk}
 use Rattle.eid_model.specs.declared.kind.Kind.TheVariants.{ChangePin, UnblockPin}
-use Rattle.eid_model.specs.Rules.{is_formed, kind_rules, was_with}
+use Rattle.eid_model.specs.Rules.{answer_rules, first_failed, is_formed, kind_rules, was_with}
+use Rattle.eid_chip.proofs.CarriedOut.{unasked_at}
 use Rattle.eid_model.specs.Runs.{entered}
 use Rattle.eid_model.specs.Sessions.{State}
 use Rattle.eid_chip.specs.States.{memory}
@@ -53,13 +54,13 @@ change_without_pace kept old c formed none = rw (formed, none) refl
 pub change_by_another : (kept : FullRecord) (old : State) (c : PlainCommand) → is_formed (Some ChangePin) c.body ≡ true → is_some old.pace ≡ true → was_with is_pin old.pace ≡ false → refusal_by kind_rules (known ChangePin kept old c []) ≡ refusal_with 29 0x6982
 change_by_another kept old c formed some other = rw (formed, some, other) refl
 
-pub changes : (kept : FullRecord) (old : State) (c : PlainCommand) (pin : List ℕ) → is_formed (Some ChangePin) c.body ≡ true → is_some old.pace ≡ true → was_with is_pin old.pace ≡ true → pin ≡ c.body → CommitsOne ChangePin kept old c (SetPin pin)
+pub changes : (kept : FullRecord) (old : State) (c : PlainCommand) (pin : List ℕ) → is_formed (Some ChangePin) c.body ≡ true → is_some old.pace ≡ true → was_with is_pin old.pace ≡ true → pin ≡ c.body → CommitsOne ChangePin kept old c [] (SetPin pin) None
 unfolding entered
 changes kept old c pin formed some by_pin is = record {
+  asked = unasked_at (is_none (first_failed (kind_rules ++ answer_rules) (known ChangePin kept old c []))) _ refl;
   passes = rw (formed, some, by_pin) refl;
   committing = refl;
   commits = ap (λ (p : List ℕ). SetPin p ∷ []) (sym is);
-  unasked = refl;
   proves = refl;
   answers = refl;
   leaves = refl;
@@ -79,13 +80,13 @@ unblock_by_another kept old c formed some other = rw (formed, some, other) refl
 pub unblock_at_none : (kept : FullRecord) (old : State) (c : PlainCommand) → (length c.body == 0) ≡ true → is_some old.pace ≡ true → was_with is_puk old.pace ≡ true → nat_le 1 kept.fields.unblocks ≡ false → refusal_by kind_rules (known UnblockPin kept old c []) ≡ refusal_with 30 0x6983
 unblock_at_none kept old c formed some by_puk none = rw (formed, some, by_puk, none) refl
 
-pub unblocks : (kept : FullRecord) (old : State) (c : PlainCommand) → (length c.body == 0) ≡ true → is_some old.pace ≡ true → was_with is_puk old.pace ≡ true → nat_le 1 kept.fields.unblocks ≡ true → CommitsOne UnblockPin kept old c (Unblock true)
+pub unblocks : (kept : FullRecord) (old : State) (c : PlainCommand) → (length c.body == 0) ≡ true → is_some old.pace ≡ true → was_with is_puk old.pace ≡ true → nat_le 1 kept.fields.unblocks ≡ true → CommitsOne UnblockPin kept old c [] (Unblock true) None
 unfolding entered
 unblocks kept old c formed some by_puk left = record {
+  asked = unasked_at (is_none (first_failed (kind_rules ++ answer_rules) (known UnblockPin kept old c []))) _ refl;
   passes = rw (formed, some, by_puk, left) refl;
   committing = refl;
   commits = ap (λ (b : Bool). Unblock b ∷ []) by_puk;
-  unasked = refl;
   proves = refl;
   answers = refl;
   leaves = refl;

@@ -9,7 +9,7 @@ use Rattle.eid_apdu.specs.Answer.{PlainReply}
 use Rattle.eid_copro.specs.declared.ask.Ask.{Ask}
 use Rattle.eid_copro.specs.declared.ask.Question.{Question}
 use Rattle.eid_copro.specs.declared.ask.Answer.{Answer}
-use Rattle.eid_record.specs.Plain.{FullRecord, PlainEffect}
+use Rattle.eid_record.specs.Plain.{FullRecord, PlainRecord, PlainEffect}
 use Rattle.eid_cells.specs.Device.{Device}
 use Rattle.eid_copro.specs.Seen.{CoproSeen}
 use Rattle.eid_sm.specs.Keys.{ChannelState}
@@ -23,7 +23,7 @@ use Rattle.eid_model.specs.Rules.{Incoming, OfCommand, plain_of, Situation, Rule
 use Rattle.eid_model.specs.Answers.{Outcome, outcome, outcome_of, outcome_by, question, question_by, question_of, due, due_by, situation, kind_incoming, command_of, status_alone}
 use Rattle.eid_model.specs.Legal.{AreAsked, IsReadAs}
 use Rattle.eid_model.proofs.Books.{nothing_due_by}
-use Rattle.eid_chip.specs.Transitions.{state_answered, state_by_kind, state_carried_out, state_refused, two_messages_later, without_run}
+use Rattle.eid_chip.specs.Transitions.{state_answered, state_by_kind, state_carried_out, state_later, state_piece, state_refused}
 use Rattle.eid_chip.specs.declared.reaction.Reaction.{Reaction}
 use Rattle.eid_chip.specs.declared.reaction.Ending.{Ending}
 use Rattle.eid_chip.specs.declared.reaction.Ending.TheVariants.{Answered, Lost}
@@ -147,7 +147,7 @@ command_rule kept old c answers o is =
     let later = naming_rules ++ request_rules ++ kind_rules ++ answer_rules ++ commit_rules ++ proof_rules in
     let found : first_failed (transport_rules ++ later) s ≡ first_failed later s = passed transport_rules later s refl in
     ap (λ (x : Outcome). is_on_objects x.rule) (sym is) ∙ ap (λ (f : Option RuleRow). is_on_objects (outcome_by f s).rule) found
-    ∙ others_fail later s (refl, (refl, (refl, (refl, (refl, (refl, (refl, (refl, (refl, (refl, (refl, (refl, (refl, (refl, (refl, (refl, (refl, (refl, (refl, (refl, (refl, (refl, (refl, (refl, _))))))))))))))))))))))))
+    ∙ others_fail later s (refl, (refl, (refl, (refl, (refl, (refl, (refl, (refl, (refl, (refl, (refl, (refl, (refl, (refl, (refl, (refl, (refl, (refl, (refl, (refl, (refl, (refl, (refl, (refl, (refl, (refl, (refl, (refl, (refl, (refl, (refl, _)))))))))))))))))))))))))))))))
 
 pub command_answered : (old : State) (c : PlainCommand) (asks : List Ask) (ending : Ending) (reply : PlainReply) (left : Option OpenChain) (before after : World) → IsEndedByRules old (OfCommand c) asks ending reply left before after → is_on_objects (rule_of ending) ≡ false
 command_answered old c asks (Answered r finished) reply left before after did = command_rule (held before.cells) old c (answers_of asks) (outcome_seen r reply) did.ended.1
@@ -162,12 +162,12 @@ if_not true x y e = absurd (cc)
 if_not false x y e = refl
 
 -- a refused command leaves the state without a run
-pub refused_by_kind : (rule : ℕ) (kind : Kind) (c : PlainCommand) (answers : List Answer) (old : State) → (rule == 0) ≡ false → state_by_kind rule kind c answers old ≡ state_refused old
-refused_by_kind rule kind c answers old e = if_not (rule == 0) (state_carried_out kind c answers old) (state_refused old) e
+pub refused_by_kind : (kept : PlainRecord) (rule : ℕ) (kind : Kind) (c : PlainCommand) (answers : List Answer) (old : State) → (rule == 0) ≡ false → state_by_kind kept rule kind c answers old ≡ state_refused old
+refused_by_kind kept rule kind c answers old e = if_not (rule == 0) (state_carried_out kept kind c answers old) (state_refused old) e
 
-pub refused_state : (rule : ℕ) (kind : Option Kind) (c : PlainCommand) (answers : List Answer) (old : State) → (rule == 0) ≡ false → state_answered rule kind c answers old ≡ state_refused old
-refused_state rule None c answers old e = rw e refl
-refused_state rule (Some kind) c answers old e = refused_by_kind rule kind (request old.chaining c) answers (unchained old) e
+pub refused_state : (kept : PlainRecord) (rule : ℕ) (kind : Option Kind) (c : PlainCommand) (answers : List Answer) (old : State) → (rule == 0) ≡ false → state_answered kept rule kind c answers old ≡ state_refused old
+refused_state kept rule None c answers old e = rw e refl
+refused_state kept rule (Some kind) c answers old e = refused_by_kind kept rule kind (request old.chaining c) answers (unchained old) e
 
 -- a refusal puts no question, and is the answer
 pub refused_answers : (rows more most later : List RuleRow) (kept : FullRecord) (old : State) (incoming : Incoming) (refused : PlainRefusal) (r : Reaction) (reply : PlainReply) → refusal_by rows (situation kept old incoming []) ≡ Some refused
@@ -184,7 +184,7 @@ refused_answers rows more most later kept old incoming refused r reply fails ask
       ended = ends ∙ failed rows later s refused fails ∙ same;
       undue = dues ∙ if_not (is_none (first_failed (rows ++ most) s)) (to_commit s.kind s) [] (some_failed rows most s refused fails);
       left = left ∙ ap (λ (n : ℕ). state_due n (state_refused old)) (sym rule)
-          ∙ ap (λ (x : State). state_due r.rule.0 x) (sym (refused_state r.rule.0 (kind_incoming old incoming) (command_of incoming) [] old (ap (λ (n : ℕ). n == 0) rule ∙ is_one)));
+          ∙ ap (λ (x : State). state_due r.rule.0 x) (sym (refused_state kept.fields r.rule.0 (kind_incoming old incoming) (command_of incoming) [] old (ap (λ (n : ℕ). n == 0) rule ∙ is_one)));
     }
 
 -- a command whose class, instruction or parameters are refused
@@ -268,7 +268,7 @@ ended_by_rules old c kind asks ending reply before after ends names requests did
           (λ answers. sym (kind_question kept old c kind answers ends (names answers) (requests answers))) [] asks did.asked;
       ended = subst (λ (l : List PlainEffect). IsEnding l (outcome (with_command kept old c (answers_of asks))) ending reply) effects
           (subst (λ (o : Outcome). IsEnding (due_by kind_rules (known kind kept (unchained old) whole (answers_of asks))) o ending reply) outcome_is did.ended);
-      next = subst (λ (k : Option Kind). IsNext (λ rule. state_answered rule k c (answers_of asks) old) ending old.channel None) (sym ends.named) did.next;
+      next = subst (λ (k : Option Kind). IsNext (λ rule. state_answered kept.fields rule k c (answers_of asks) old) ending old.channel None) (sym ends.named) did.next;
       leaves = subst (λ (l : List PlainEffect). Leaves l kept ending before after) effects did.leaves;
     }
 
@@ -330,7 +330,7 @@ kind_refused kind kept old c refused r reply fails is_one rule answered left =
         asked = if_not (is_none (first_failed (kind_rules ++ answer_rules) s)) (question_of s.kind s) None (some_failed kind_rules answer_rules s refused fails);
         ended = failed kind_rules (answer_rules ++ commit_rules ++ proof_rules) s refused fails ∙ same;
         left = left ∙ ap (λ (n : ℕ). state_due n (state_refused old)) (sym rule)
-            ∙ ap (λ (x : State). state_due r.rule.0 x) (sym (refused_by_kind r.rule.0 kind c [] old (ap (λ (n : ℕ). n == 0) rule ∙ is_one)));
+            ∙ ap (λ (x : State). state_due r.rule.0 x) (sym (refused_by_kind kept.fields r.rule.0 kind c [] old (ap (λ (n : ℕ). n == 0) rule ∙ is_one)));
       },
     )
 
@@ -440,15 +440,15 @@ fragment_due : (kept : FullRecord) (old : State) (c : PlainCommand) → is_fragm
 unfolding due
 fragment_due kept old c is = ap due (fragment_so kept old c is) ∙ same_if _ []
 
--- the state after it: without a run, with the chain that it goes on with
-fragment_state : (rule : ℕ) (kind : Option Kind) (old : State) (c : PlainCommand) (left : Option OpenChain) → rule ≡ 0 → kind ≡ None → is_fragment c ≡ true
-    → left ≡ chain_after old.chaining c More → chained left (state_refused old) ≡ state_due rule (state_answered rule kind c [] old)
-fragment_state rule kind old c left zero none is leaves = rw (zero, none, is, leaves) refl
+-- the state after it, with the chain that it goes on with
+fragment_state : (kept : PlainRecord) (rule : ℕ) (kind : Option Kind) (old : State) (c : PlainCommand) (left : Option OpenChain) → rule ≡ 0 → kind ≡ None → is_fragment c ≡ true
+    → left ≡ chain_after old.chaining c More → chained left (state_piece c old) ≡ state_due rule (state_answered kept rule kind c [] old)
+fragment_state kept rule kind old c left zero none is leaves = rw (zero, none, is, leaves) refl
 
 -- a fragment that is answered
 pub fragment_taken : (session : Session) (fragments : Option OpenChain) (c : PlainCommand) (ending : Ending) (r : Reaction) (reply : PlainReply) (left : Option OpenChain) (copro : CoproSeen) (store : Store) (device : Device) (cells : List ℕ)
     → stored.Fits store device cells → ending ≡ Answered r 0 → Says fragments c More → Passes c → r.rule.0 ≡ 0 → reply ≡ status_alone 0x9000 → left ≡ chain_after fragments c More
-    → ((channel : Option ChannelState) → state_left r channel ≡ state_refused (state session channel))
+    → ((channel : Option ChannelState) → state_left r channel ≡ state_piece c (state session channel))
     → Reacts session fragments c ending reply left (world copro store device cells) (world copro store device cells)
 fragment_taken session fragments c ending r reply left copro store device cells fits ends says names rule answered leaves idle = record {
   asks = [];
@@ -463,26 +463,26 @@ fragment_taken session fragments c ending r reply left copro store device cells 
           sym (ap length (fragment_due (held cells) old c is)),
           fragment_outcome (held cells) old c is (names (held cells) old []) requests ∙ rw (rule, answered) refl,
         );
-        next = ap (λ (s : State). chained left s) (idle channel) ∙ fragment_state r.rule.0 (kind_incoming old (OfCommand c)) old c left rule (rw is refl) is leaves;
+        next = ap (λ (s : State). chained left s) (idle channel) ∙ fragment_state (held cells).fields r.rule.0 (kind_incoming old (OfCommand c)) old c left rule (rw is refl) is leaves;
         leaves = leaves_all _ r copro copro store device cells (fragment_due (held cells) old c is) fits;
       });
   layout = refl;
 }
 
--- how a command of a known kind ended that puts no question, by what is due and by the outcome
-pub ends_so : (kind : Kind) (old : State) (c : PlainCommand) (effects : List PlainEffect) (o : Outcome) (ending : Ending) (reply : PlainReply) (before after : World)
-    → question_by kind_rules (known kind (held before.cells) old c []) ≡ None → due_by kind_rules (known kind (held before.cells) old c []) ≡ effects → outcome_of kind_rules (known kind (held before.cells) old c []) ≡ o
-    → IsEnding effects o ending reply → IsNext (λ rule. state_by_kind rule kind c [] old) ending old.channel None → Leaves effects (held before.cells) ending before after
-    → IsEndedByKind kind old c [] ending reply before after
-ends_so kind old c effects o ending reply before after unasked due_is outcome_is ended next leaves = record {
+-- how a command of a known kind ended, by its questions, by what is due and by the outcome
+pub ends_so : (kind : Kind) (old : State) (c : PlainCommand) (asks : List Ask) (effects : List PlainEffect) (o : Outcome) (ending : Ending) (reply : PlainReply) (before after : World)
+    → AreAsked (λ answers. question_by kind_rules (known kind (held before.cells) old c answers)) [] asks → due_by kind_rules (known kind (held before.cells) old c (answers_of asks)) ≡ effects → outcome_of kind_rules (known kind (held before.cells) old c (answers_of asks)) ≡ o
+    → IsEnding effects o ending reply → IsNext (λ rule. state_by_kind (held before.cells).fields rule kind c (answers_of asks) old) ending old.channel None → Leaves effects (held before.cells) ending before after
+    → IsEndedByKind kind old c asks ending reply before after
+ends_so kind old c asks effects o ending reply before after unasked due_is outcome_is ended next leaves = record {
   asked = unasked;
-  ended = subst (λ (l : List PlainEffect). IsEnding l (outcome_of kind_rules (known kind (held before.cells) old c [])) ending reply) (sym due_is)
+  ended = subst (λ (l : List PlainEffect). IsEnding l (outcome_of kind_rules (known kind (held before.cells) old c (answers_of asks))) ending reply) (sym due_is)
       (subst (λ (x : Outcome). IsEnding effects x ending reply) (sym outcome_is) ended);
   next = next;
   leaves = subst (λ (l : List PlainEffect). Leaves l (held before.cells) ending before after) (sym due_is) leaves;
 }
 
--- a fragment that is answered takes the run
-pub idle_left : (session new : Session) (r : Reaction) (channel : Option ChannelState) → r.rule.0 ≡ 0 → r.opened ≡ None → r.session ≡ new
-    → ((ch : Option ChannelState) → state new ch ≡ without_run (state session ch)) → state_left r channel ≡ state_refused (state session channel)
-idle_left session new r channel rule opened is without = rw (rule, opened, is) (without (option_map two_messages_later channel))
+-- what a fragment that is answered leaves
+pub piece_left : (session new : Session) (c : PlainCommand) (r : Reaction) (channel : Option ChannelState) → r.rule.0 ≡ 0 → r.opened ≡ None → r.session ≡ new
+    → ((ch : Option ChannelState) → state_later (state new ch) ≡ state_piece c (state session ch)) → state_left r channel ≡ state_piece c (state session channel)
+piece_left session new c r channel rule opened is left = rw (rule, opened, is) (left channel)

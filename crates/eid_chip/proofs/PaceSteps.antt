@@ -1,6 +1,6 @@
 -- What each step of PACE promises, from what it did.
 use Rattle.std.proofs.Common.{◌≡◌, ℕ, Bool, true, false, List, [], ◌∷◌, ◌++◌, Option, Some, None, Result, Ok, Err, not, ◌||◌, refl, sym, ap, ◌∙◌}
-use Rattle.std.specs.Prelude.{is_some, option_map, ◌==◌, if◌then◌else◌}
+use Rattle.std.specs.Prelude.{is_some, ◌==◌, if◌then◌else◌}
 use Rattle.std.specs.Result.{result_ok}
 use Rattle.std.specs.Str.{bytes_eq}
 use Rattle.eid_apdu.specs.Command.{PlainCommand}
@@ -19,6 +19,7 @@ use Rattle.eid_pace.specs.SelectionIn.{selection_in}
 use Rattle.eid_pace.specs.Keys.{encrypted_nonce}
 use Rattle.eid_pace.specs.Check.{check_given, done_by, terminal_token, chip_token}
 use Rattle.eid_tlv.specs.Objects.{object}
+use Rattle.eid_cvc.specs.Chains.{no_chain}
 use Rattle.eid_pace.specs.MapEnds.{MapEnd, NoPair, NoMapping, NoBase, Based, map_asks, map_given}
 use Rattle.eid_pace.specs.AgreeEnds as agree
 use Rattle.eid_pace.specs.AgreeEnds.{AgreeEnd, agree_asks, agree_given}
@@ -30,9 +31,9 @@ use Rattle.eid_model.specs.declared.kind.Kind.TheVariants.{SelectPace, Encrypted
 use Rattle.eid_model.specs.Answers.{status_alone, data_alone, previous_name, select_reply}
 use Rattle.eid_model.specs.Bodies.{no_data, authentication_data, data_in, holds_point, holds_value}
 use Rattle.eid_model.specs.Rules.{names_password, was_with}
-use Rattle.eid_model.specs.Runs.{Phase, Idle, Chose, SentNonce, HasBase, HasSecret, entered, as_chosen, with_nonce, with_base, with_secret}
+use Rattle.eid_model.specs.Runs.{Phase, Chose, SentNonce, HasBase, HasSecret, entered, as_chosen, with_nonce, with_base, with_secret}
 use Rattle.eid_model.specs.Sessions.{State, memory_of, keys_of, channel_after}
-use Rattle.eid_chip.specs.Transitions.{state_by_kind, state_carried_out, state_refused, two_messages_later}
+use Rattle.eid_chip.specs.Transitions.{state_by_kind, state_carried_out, state_later, state_refused, without_run}
 use Rattle.eid_chip.specs.declared.reaction.Reaction.{Reaction}
 use Rattle.eid_chip.specs.declared.session.Session.{Session}
 use Rattle.eid_chip.specs.States.{state}
@@ -40,15 +41,7 @@ use Rattle.eid_chip.specs.Steps.{IsAnsweredByKind, state_left, state_due, outcom
 
 -- the state where the run has come to another step, one command later
 abbrev moved : Option Kind → Phase → State → State
-moved next phase old = record {
-  next = next;
-  phase = phase;
-  selected = old.selected;
-  current = old.current;
-  pace = old.pace;
-  channel = option_map two_messages_later old.channel;
-  chaining = None;
-}
+moved next phase old = record (state_later old) { next = next; phase = phase }
 
 -- a reaction that carried the command out, and opened no channel
 pub record WentOn (reaction : Reaction) (said : PlainReply) (old : State) (next : Option Kind) (phase : Phase) (reply : PlainReply) : Type 0 where
@@ -67,8 +60,8 @@ went_on reaction said old channel new reply rule answer opened session memory = 
 pub outcome_is : (rule : ℕ) (reply : PlainReply) (reaction : Reaction) (said : PlainReply) → reaction.rule.0 ≡ rule → said ≡ reply → record { rule = rule; reply = reply } ≡ outcome_seen reaction said
 outcome_is rule reply reaction said e f = cc
 
-due : (rule : ℕ) (kind : Kind) (c : PlainCommand) (given : List Answer) (old : State) → rule ≡ 0 → state_carried_out kind c given old ≡ state_due rule (state_by_kind rule kind c given old)
-due rule kind c given old e = rw e refl
+due : (kept : PlainRecord) (rule : ℕ) (kind : Kind) (c : PlainCommand) (given : List Answer) (old : State) → rule ≡ 0 → state_carried_out kept kind c given old ≡ state_due rule (state_by_kind kept rule kind c given old)
+due kept rule kind c given old e = rw e refl
 
 -- a body that has not the form of its step
 pub record WasUnformed (reaction : Reaction) (said : PlainReply) (old : State) : Type 0 where
@@ -76,28 +69,28 @@ pub record WasUnformed (reaction : Reaction) (said : PlainReply) (old : State) :
   pub answered : said ≡ status_alone 0x6A80
   pub state : state_left reaction old.channel ≡ state_due 10 (state_refused old)
 
-not_due : (rule : ℕ) (kind : Kind) (c : PlainCommand) (given : List Answer) (old : State) → rule ≡ 10 → state_due 10 (state_refused old) ≡ state_due rule (state_by_kind rule kind c given old)
-not_due rule kind c given old e = rw e refl
+not_due : (kept : PlainRecord) (rule : ℕ) (kind : Kind) (c : PlainCommand) (given : List Answer) (old : State) → rule ≡ 10 → state_due 10 (state_refused old) ≡ state_due rule (state_by_kind kept rule kind c given old)
+not_due kept rule kind c given old e = rw e refl
 
 pub no_empty_body : (kept : FullRecord) (old : State) (c : PlainCommand) (reaction : Reaction) (said : PlainReply) → bytes_eq c.body no_data ≡ false → WasUnformed reaction said old → IsAnsweredByKind EncryptedNonce kept old c [] reaction said
 no_empty_body kept old c reaction said body h = record {
   asked = rw body refl;
   ended = rw body (outcome_is 10 _ reaction said h.rule h.answered);
-  left = h.state ∙ not_due reaction.rule.0 EncryptedNonce c [] old h.rule;
+  left = h.state ∙ not_due kept.fields reaction.rule.0 EncryptedNonce c [] old h.rule;
 }
 
 pub no_point_to_map : (kept : FullRecord) (old : State) (c : PlainCommand) (reaction : Reaction) (said : PlainReply) → holds_point 0x81 c.body ≡ false → WasUnformed reaction said old → IsAnsweredByKind MapNonce kept old c [] reaction said
 no_point_to_map kept old c reaction said body h = record {
   asked = rw body refl;
   ended = rw body (outcome_is 10 _ reaction said h.rule h.answered);
-  left = h.state ∙ not_due reaction.rule.0 MapNonce c [] old h.rule;
+  left = h.state ∙ not_due kept.fields reaction.rule.0 MapNonce c [] old h.rule;
 }
 
 pub no_point_to_agree : (kept : FullRecord) (old : State) (c : PlainCommand) (reaction : Reaction) (said : PlainReply) → holds_point 0x83 c.body ≡ false → WasUnformed reaction said old → IsAnsweredByKind PerformKeyAgreement kept old c [] reaction said
 no_point_to_agree kept old c reaction said body h = record {
   asked = rw body refl;
   ended = rw body (outcome_is 10 _ reaction said h.rule h.answered);
-  left = h.state ∙ not_due reaction.rule.0 PerformKeyAgreement c [] old h.rule;
+  left = h.state ∙ not_due kept.fields reaction.rule.0 PerformKeyAgreement c [] old h.rule;
 }
 
 -- a selection that is chosen names a password
@@ -118,7 +111,7 @@ selected kept old c choice reaction said e h =
       asked = rw (parts.0, parts.1) refl;
       ended = rw (parts.0, parts.1) (ap (λ (r : Result PlainChoice ℕ). record { rule = 0; reply = select_reply kept.fields (result_ok r) }) (sym e)
           ∙ outcome_is 0 (status_alone (select_status kept.fields choice.password)) reaction said h.rule h.answered);
-      left = h.state ∙ ap (λ (p : Phase). moved (Some EncryptedNonce) p old) phase ∙ due reaction.rule.0 SelectPace c [] old h.rule;
+      left = h.state ∙ ap (λ (p : Phase). moved (Some EncryptedNonce) p old) phase ∙ due kept.fields reaction.rule.0 SelectPace c [] old h.rule;
     }
 
 both : {A B E : Type 0} (x a : A) (y b : B) → ◌≡◌ {A = Result (A × B) E} (Ok (x, y)) (Ok (a, b)) → (x ≡ a) × (y ≡ b)
@@ -155,8 +148,8 @@ pub record WasRefused (reaction : Reaction) (said : PlainReply) (old : State) (r
 pub idle_refused : (rule n : ℕ) (s idle : Session) (channel : Option ChannelState) → rule ≡ n → idle.memory ≡ s.memory → state_due rule (state_refused (state idle channel)) ≡ state_due n (state_refused (state s channel))
 idle_refused rule n s idle channel e same = rw (e, same) refl
 
-pub not_due_by : (rule n : ℕ) (kind : Kind) (c : PlainCommand) (given : List Answer) (old : State) → rule ≡ n → (n == 0) ≡ false → state_due n (state_refused old) ≡ state_due rule (state_by_kind rule kind c given old)
-not_due_by rule n kind c given old e is_one = rw (e, is_one) refl
+pub not_due_by : (kept : PlainRecord) (rule n : ℕ) (kind : Kind) (c : PlainCommand) (given : List Answer) (old : State) → rule ≡ n → (n == 0) ≡ false → state_due n (state_refused old) ≡ state_due rule (state_by_kind kept rule kind c given old)
+not_due_by kept rule n kind c given old e is_one = rw (e, is_one) refl
 
 -- the start is refused by one of the rules on it
 start_failed : (a b c : Bool) (n : ℕ) (kept : FullRecord) (old : State) (command : PlainCommand) (choice : PlainChoice) (reaction : Reaction) (said : PlainReply)
@@ -169,7 +162,7 @@ start_failed false b c n kept old command choice reaction said e a_is b_is c_is 
     record {
       asked = rw (body, at, pin, a_is) refl;
       ended = rw (body, at, pin, a_is) (outcome_is active_rule _ reaction said was.rule was.answered);
-      left = was.state ∙ not_due_by reaction.rule.0 active_rule EncryptedNonce command [] old was.rule refl;
+      left = was.state ∙ not_due_by kept.fields reaction.rule.0 active_rule EncryptedNonce command [] old was.rule refl;
     }
 start_failed true false c n kept old command choice reaction said e a_is b_is c_is pin at body h =
     let same : n ≡ try_rule = cc in
@@ -177,7 +170,7 @@ start_failed true false c n kept old command choice reaction said e a_is b_is c_
     record {
       asked = rw (body, at, pin, a_is, b_is) refl;
       ended = rw (body, at, pin, a_is, b_is) (outcome_is try_rule _ reaction said was.rule was.answered);
-      left = was.state ∙ not_due_by reaction.rule.0 try_rule EncryptedNonce command [] old was.rule refl;
+      left = was.state ∙ not_due_by kept.fields reaction.rule.0 try_rule EncryptedNonce command [] old was.rule refl;
     }
 start_failed true true false n kept old command choice reaction said e a_is b_is c_is pin at body h =
     let same : n ≡ resumed_rule = cc in
@@ -185,7 +178,7 @@ start_failed true true false n kept old command choice reaction said e a_is b_is
     record {
       asked = rw (body, at, pin, a_is, b_is, c_is) refl;
       ended = rw (body, at, pin, a_is, b_is, c_is) (outcome_is resumed_rule _ reaction said was.rule was.answered);
-      left = was.state ∙ not_due_by reaction.rule.0 resumed_rule EncryptedNonce command [] old was.rule refl;
+      left = was.state ∙ not_due_by kept.fields reaction.rule.0 resumed_rule EncryptedNonce command [] old was.rule refl;
     }
 start_failed true true true n kept old command choice reaction said e a_is b_is c_is pin at body h = absurd (cc)
 
@@ -204,7 +197,7 @@ unfolding StartsWell
 fault_drawn kept old c choice reaction said at body well was = record {
   asked = (rw (body, at, well.0, well.1, well.2) refl, refl, rw (body, at, well.0, well.1, well.2) refl);
   ended = rw (body, at, well.0, well.1, well.2) (outcome_is 50 _ reaction said was.rule was.answered);
-  left = was.state ∙ not_due_by reaction.rule.0 50 EncryptedNonce c (answers.Fault ∷ []) old was.rule refl;
+  left = was.state ∙ not_due_by kept.fields reaction.rule.0 50 EncryptedNonce c (answers.Fault ∷ []) old was.rule refl;
 }
 
 -- it may not start, or the nonce met a fault
@@ -236,7 +229,7 @@ nonce_sent kept old c choice refusal (Drawn nonce may) sent bytes reaction said 
     record {
       asked = (rw (body, at, well.0, well.1, well.2) refl, refl, rw (body, at, well.0, well.1, well.2) refl);
       ended = rw (body, at, well.0, well.1, well.2) (outcome_is 0 _ reaction said h.rule (h.answered ∙ ap (λ (b : List ℕ). data_alone (authentication_data 0x80 b)) parts.1));
-      left = h.state ∙ ap (λ (p : Phase). moved (Some MapNonce) p old) phase ∙ due reaction.rule.0 EncryptedNonce c (answers.Nonce nonce ∷ []) old h.rule;
+      left = h.state ∙ ap (λ (p : Phase). moved (Some MapNonce) p old) phase ∙ due kept.fields reaction.rule.0 EncryptedNonce c (answers.Nonce nonce ∷ []) old h.rule;
     }
 
 -- a pair was drawn, and the nonce mapped to a base
@@ -252,7 +245,7 @@ mapped_to kept old c sent peer (Based secret own base) mapped public reaction sa
     record {
       asked = (rw (body, at) refl, refl, (rw (body, at, is) refl, refl, rw (body, at) refl));
       ended = rw body (outcome_is 0 _ reaction said h.rule (h.answered ∙ ap (λ (b : List ℕ). data_alone (authentication_data 0x82 b)) parts.1));
-      left = h.state ∙ ap (λ (p : Phase). moved (Some PerformKeyAgreement) p old) phase ∙ due reaction.rule.0 MapNonce c given old h.rule;
+      left = h.state ∙ ap (λ (p : Phase). moved (Some PerformKeyAgreement) p old) phase ∙ due kept.fields reaction.rule.0 MapNonce c given old h.rule;
     }
 
 -- a pair was drawn over the base, and a secret agreed
@@ -269,7 +262,7 @@ agreed_on kept old c mapped peer (agree.Shared secret own shared other) agreed p
     record {
       asked = (rw (body, at) refl, refl, (rw (body, at, ← is, other) refl, refl, rw (body, at, ← is, other) refl));
       ended = rw (body, ← is, other) (outcome_is 0 _ reaction said h.rule (h.answered ∙ ap (λ (b : List ℕ). data_alone (authentication_data 0x84 b)) parts.1));
-      left = h.state ∙ ap (λ (p : Phase). moved (Some MutualAuthentication) p old) phase ∙ due reaction.rule.0 PerformKeyAgreement c given old h.rule;
+      left = h.state ∙ ap (λ (p : Phase). moved (Some MutualAuthentication) p old) phase ∙ due kept.fields reaction.rule.0 PerformKeyAgreement c given old h.rule;
     }
 
 pub token_parts : (b : Bool) (done given : PlainDone) (own sent : List ℕ) (rule : ℕ) → ◌≡◌ {A = Result (PlainDone × List ℕ) ℕ} (Ok (done, own)) (if b then Ok (given, sent) else Err rule) → (b ≡ true) × (done ≡ given) × (own ≡ sent)
@@ -283,7 +276,7 @@ last_data kept own = object 0x7C (object 0x86 own ++ object 0x87 kept.fields.cur
 -- the terminal's token was right, and a channel was opened
 pub authenticated : (kept : FullRecord) (old : State) (c : PlainCommand) (agreed : PlainAgreed) (sent : List ℕ) (done : PlainDone) (own : List ℕ) (reaction : Reaction) (said : PlainReply) → old.phase ≡ HasSecret agreed → sent ≡ data_in c.body → holds_value 0x85 8 c.body ≡ true → Ok (done, own) ≡ check_given agreed sent → reaction.rule.0 ≡ 0 → said ≡ data_alone (last_data kept own)
     → is_pin agreed.choice.password ≡ false
-    → state_left reaction old.channel ≡ record { next = None; phase = Idle; selected = old.selected; current = old.current; pace = Some (memory_of done); channel = Some (channel_after 0 (keys_of done)); chaining = None }
+    → state_left reaction old.channel ≡ record (without_run old) { pace = Some (memory_of done); certificates = no_chain; channel = Some (channel_after 0 (keys_of done)) }
     → IsAnsweredByKind MutualAuthentication kept old c [] reaction said
 unfolding entered
 authenticated kept old c agreed sent done own reaction said at is body e rule answer other left =

@@ -6,11 +6,11 @@ use Rattle.eid_apdu.specs.Command.{PlainCommand}
 use Rattle.eid_record.specs.Plain.{FullRecord}
 use Rattle.eid_model.specs.declared.kind.Kind.TheVariants.{ReadBinary}
 use Rattle.eid_model.specs.Kinds.{is_by_short, file_of_short}
-use Rattle.eid_model.specs.Runs.{Idle, entered}
+use Rattle.eid_model.specs.Runs.{entered}
 use Rattle.eid_model.specs.Sessions.{State}
 use Rattle.eid_model.specs.Rules.{kind_rules, answer_rules, commit_rules, proof_rules, first_failed, file_meant, bytes_of_file, offset_meant, is_card_access}
 use Rattle.eid_model.specs.Answers.{read_reply, success_of}
-use Rattle.eid_chip.specs.Transitions.{state_carried_out, two_messages_later}
+use Rattle.eid_chip.specs.Transitions.{state_carried_out, state_refused}
 use Rattle.eid_chip.specs.Steps.{known}
 use Rattle.eid_chip.proofs.Selections.{second_holds}
 
@@ -38,7 +38,7 @@ current_by true short current file e = rw e refl
 current_by false short current file e = refl
 
 -- the file is current afterwards
-pub read_leaves : (kept : FullRecord) (old : State) (c : PlainCommand) (file : ℕ) → file_meant (known ReadBinary kept old c []) ≡ Some file → record { next = None; phase = Idle; selected = old.selected; current = if is_by_short c then Some file else old.current; pace = old.pace; channel = option_map two_messages_later old.channel; chaining = None } ≡ state_carried_out ReadBinary c [] old
+pub read_leaves : (kept : FullRecord) (old : State) (c : PlainCommand) (file : ℕ) → file_meant (known ReadBinary kept old c []) ≡ Some file → record (state_refused old) { current = if is_by_short c then Some file else old.current } ≡ state_carried_out kept.fields ReadBinary c [] old
 unfolding entered file_meant
 read_leaves kept old c file meant =
-    ap (λ (o : Option ℕ). record { next = None; phase = Idle; selected = old.selected; current = o; pace = old.pace; channel = option_map two_messages_later old.channel; chaining = None }) (current_by (is_by_short c) (file_of_short (c.p1 - 0x80)) old.current file meant)
+    ap (λ (o : Option ℕ). record (state_refused old) { current = o }) (current_by (is_by_short c) (file_of_short (c.p1 - 0x80)) old.current file meant)

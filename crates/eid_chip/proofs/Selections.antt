@@ -4,13 +4,13 @@ use Rattle.std.specs.Prelude.{nat_le, nat_lt, is_some, option_map}
 use Rattle.std.specs.Str.{bytes_eq}
 use Rattle.std.proofs.lemmas.Bool.Decides.{nat_tests}
 use Rattle.eid_apdu.specs.Command.{PlainCommand}
-use Rattle.eid_record.specs.Plain.{FullRecord}
+use Rattle.eid_record.specs.Plain.{FullRecord, PlainRecord}
 use Rattle.eid_model.specs.declared.kind.Kind.TheVariants.{SelectApplication, SelectMasterFile, SelectFile}
 use Rattle.eid_model.specs.Kinds.{application_id, file_of_id}
-use Rattle.eid_model.specs.Runs.{Idle, entered}
+use Rattle.eid_model.specs.Runs.{entered}
 use Rattle.eid_model.specs.Sessions.{State, number_of_two}
 use Rattle.eid_model.specs.Rules.{kind_rules, answer_rules, commit_rules, proof_rules, first_failed}
-use Rattle.eid_chip.specs.Transitions.{state_carried_out, two_messages_later}
+use Rattle.eid_chip.specs.Transitions.{state_carried_out, state_refused}
 use Rattle.eid_chip.specs.Steps.{known}
 
 pub not_false : (b : Bool) → false ≡ not b → b ≡ true
@@ -44,17 +44,17 @@ pub file_passes : (kept : FullRecord) (old : State) (c : PlainCommand) (file : �
 file_passes kept old c file two named = rw (two, named) refl
 
 -- what they leave
-pub application_leaves : (old : State) (c : PlainCommand) → record { next = None; phase = Idle; selected = true; current = None; pace = old.pace; channel = option_map two_messages_later old.channel; chaining = None } ≡ state_carried_out SelectApplication c [] old
+pub application_leaves : (kept : PlainRecord) (old : State) (c : PlainCommand) → record (state_refused old) { selected = true; current = None } ≡ state_carried_out kept SelectApplication c [] old
 unfolding entered
-application_leaves old c = refl
+application_leaves kept old c = refl
 
-pub master_file_leaves : (old : State) (c : PlainCommand) → record { next = None; phase = Idle; selected = false; current = None; pace = old.pace; channel = option_map two_messages_later old.channel; chaining = None } ≡ state_carried_out SelectMasterFile c [] old
+pub master_file_leaves : (kept : PlainRecord) (old : State) (c : PlainCommand) → record (state_refused old) { selected = false; current = None } ≡ state_carried_out kept SelectMasterFile c [] old
 unfolding entered
-master_file_leaves old c = refl
+master_file_leaves kept old c = refl
 
-pub file_leaves : (old : State) (c : PlainCommand) (file : ℕ) → file_of_id (number_of_two c.body) ≡ Some file → record { next = None; phase = Idle; selected = old.selected; current = Some file; pace = old.pace; channel = option_map two_messages_later old.channel; chaining = None } ≡ state_carried_out SelectFile c [] old
+pub file_leaves : (kept : PlainRecord) (old : State) (c : PlainCommand) (file : ℕ) → file_of_id (number_of_two c.body) ≡ Some file → record (state_refused old) { current = Some file } ≡ state_carried_out kept SelectFile c [] old
 unfolding entered
-file_leaves old c file named = rw named refl
+file_leaves kept old c file named = rw named refl
 
 pub some_after : {A B : Type 0} (f : A → B) (o : Option A) → is_some (option_map f o) ≡ is_some o
 some_after f None = refl

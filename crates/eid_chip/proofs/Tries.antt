@@ -3,7 +3,7 @@ use Rattle.std.proofs.Common.{◌≡◌, ℕ, ◌≤◌, Bool, true, false, ◌=
 use Rattle.std.specs.Prelude.{◌⊎◌}
 use Rattle.std.proofs.lemmas.Bool.{leb-true, eqb-true}
 use Rattle.eid_apdu.specs.Command.{PlainCommand}
-use Rattle.eid_apdu.specs.Chaining.{OpenChain, request}
+use Rattle.eid_apdu.specs.Chaining.{OpenChain, is_fragment, request}
 use Rattle.eid_apdu.specs.Answer.{PlainReply}
 use Rattle.eid_copro.specs.declared.ask.Ask.{Ask}
 use Rattle.eid_copro.specs.declared.ask.Answer.{Answer}
@@ -17,8 +17,8 @@ use Rattle.eid_model.specs.Answers.{Outcome, due, outcome, situation, kind_incom
 use Rattle.eid_model.specs.Laws.{goes_on_with_pin}
 use Rattle.eid_model.specs.Ledger.{all_committed}
 use Rattle.eid_model.specs.Moments.{ends_session_by}
-use Rattle.eid_model.specs.Rules.{Incoming, Situation, starts_pin, to_commit}
-use Rattle.eid_model.specs.Runs.{Phase, answers_of}
+use Rattle.eid_model.specs.Rules.{Incoming, Situation, starts_pin}
+use Rattle.eid_model.specs.Runs.{Phase, answers_of, is_piece_of_next}
 use Rattle.eid_model.specs.Sessions.{State}
 use Rattle.eid_model.proofs.Books.{nothing_due}
 use Rattle.eid_model.proofs.Compared.{is_compared, try_held}
@@ -26,7 +26,7 @@ use Rattle.eid_model.proofs.Laws.{GoesOn, goes_entered}
 use Rattle.eid_chip.specs.Held.{held}
 use Rattle.eid_chip.specs.States.{chained, phase_of, state}
 use Rattle.eid_chip.specs.Steps.{IsEndedByRules, Responds, outcome_seen, state_due}
-use Rattle.eid_chip.specs.Transitions.{state_answered}
+use Rattle.eid_chip.specs.Transitions.{state_answered, state_unkinded}
 use Rattle.eid_chip.specs.Tries.{tries_pin, IsTryLeft}
 use Rattle.eid_chip.specs.Worlds.{World, IsMounted}
 use Rattle.eid_chip.specs.declared.reaction.Ending.{Ending}
@@ -44,23 +44,32 @@ phase_tries (runs.Chosen chosen) = refl
 phase_tries (runs.NonceSent sent) = refl
 phase_tries (runs.Mapped mapped) = refl
 phase_tries (runs.Agreed agreed) = refl
+phase_tries (runs.KeyChosen name) = refl
 
--- What was answered where the PACE goes on: a kind was carried out that goes on.
+-- What was answered where the PACE goes on: a request was carried out that goes on, or a fragment taken.
 record Continued (rule : ℕ) (kind : Option Kind) (before : Phase) : Type 0 where
   carried_out : rule ≡ 0
-  which : Kind
-  is : kind ≡ Some which
-  goes : GoesOn which before
+  goes : GoesOn kind before
 
-continued_at : (ends : Bool) (done : Bool) (rule : ℕ) (kind : Option Kind) (c : PlainCommand) (given : List Answer) (old : State) → ends_session_by rule ≡ ends → (rule == 0) ≡ done
-    → goes_on_with_pin (state_due rule (state_answered rule kind c given old)).phase ≡ true → Continued rule kind old.phase
-continued_at true done rule kind c given old ends is e = absurd (let none : goes_on_with_pin (state_due rule (state_answered rule kind c given old)).phase ≡ false = rw ends refl in cc)
-continued_at false done rule None c given old ends is e = absurd (let none : goes_on_with_pin (state_due rule (state_answered rule None c given old)).phase ≡ false = rw ends refl in cc)
-continued_at false false rule (Some kind) c given old ends is e = absurd (let none : goes_on_with_pin (state_due rule (state_answered rule (Some kind) c given old)).phase ≡ false = rw (ends, is) refl in cc)
-continued_at false true rule (Some kind) c given old ends is e = record {
+-- a command without a kind
+unkinded_at : (done piece goes : Bool) (rule : ℕ) (c : PlainCommand) (old : State) → (rule == 0) ≡ done → is_fragment c ≡ piece → is_piece_of_next old.next (Some c) ≡ goes
+    → goes_on_with_pin (state_unkinded rule c old).phase ≡ true → Continued rule None old.phase
+unkinded_at true true true rule c old is fragment next e = record {
   carried_out = eqb-true rule 0 is;
-  which = kind;
-  is = refl;
+  goes = record { commits_nothing = λ s. refl; by_step = inr (rw (is, fragment, next) at e) };
+}
+unkinded_at true true false rule c old is fragment next e = absurd (let none : goes_on_with_pin (state_unkinded rule c old).phase ≡ false = rw (is, fragment, next) refl in cc)
+unkinded_at true false goes rule c old is fragment next e = absurd (let none : goes_on_with_pin (state_unkinded rule c old).phase ≡ false = rw (is, fragment) refl in cc)
+unkinded_at false piece goes rule c old is fragment next e = absurd (let none : goes_on_with_pin (state_unkinded rule c old).phase ≡ false = rw is refl in cc)
+
+continued_at : (kept : PlainRecord) (ends : Bool) (done : Bool) (rule : ℕ) (kind : Option Kind) (c : PlainCommand) (given : List Answer) (old : State) → ends_session_by rule ≡ ends → (rule == 0) ≡ done
+    → goes_on_with_pin (state_due rule (state_answered kept rule kind c given old)).phase ≡ true → Continued rule kind old.phase
+continued_at kept true done rule kind c given old ends is e = absurd (let none : goes_on_with_pin (state_due rule (state_answered kept rule kind c given old)).phase ≡ false = rw ends refl in cc)
+continued_at kept false done rule None c given old ends is e =
+    unkinded_at (rule == 0) (is_fragment c) (is_piece_of_next old.next (Some c)) rule c old refl refl refl (rw ends at e)
+continued_at kept false false rule (Some kind) c given old ends is e = absurd (let none : goes_on_with_pin (state_due rule (state_answered kept rule (Some kind) c given old)).phase ≡ false = rw (ends, is) refl in cc)
+continued_at kept false true rule (Some kind) c given old ends is e = record {
+  carried_out = eqb-true rule 0 is;
   goes = goes_entered kind (request old.chaining c) given old.phase (rw (ends, is) at e);
 }
 
@@ -80,7 +89,7 @@ tries_left session channel fragments incoming asks r reply was now mounted earli
   s = seen_at session channel fragments incoming asks was
 
   none : due s ≡ []
-  none = nothing_due s (ap (λ (k : Option Kind). to_commit k s) went.is ∙ went.goes.commits_nothing s)
+  none = nothing_due s (went.goes.commits_nothing s)
 
   same : stored.fields_of now.store ≡ stored.fields_of was.store
   same = fields_stay was now mounted after (leaves ∙ ap (λ (l : List PlainEffect). Some (all_committed l (held was.cells))) none)
@@ -88,10 +97,10 @@ tries_left session channel fragments incoming asks r reply was now mounted earli
   stays : 1 ≤ (stored.fields_of was.store).tries → 1 ≤ (stored.fields_of now.store).tries
   stays left = subst (λ (f : PlainRecord). 1 ≤ f.tries) (sym same) left
 
-  by : ((went.which ≡ EncryptedNonce) × (starts_pin (phase_of session.run) ≡ true)) ⊎ (goes_on_with_pin (phase_of session.run) ≡ true) → 1 ≤ (stored.fields_of now.store).tries
+  by : ((kind_incoming (chained fragments (state session channel)) incoming ≡ Some EncryptedNonce) × (starts_pin (phase_of session.run) ≡ true)) ⊎ (goes_on_with_pin (phase_of session.run) ≡ true) → 1 ≤ (stored.fields_of now.store).tries
   by (inl first) =
       let compared : is_compared (outcome s).rule ≡ true = ap is_compared (ap (λ (o : Outcome). o.rule) is ∙ went.carried_out) in
-      let held_try = leb-true 1 (held was.cells).fields.tries (try_held s (went.is ∙ ap (λ (k : Kind). Some k) first.0) compared first.1) in
+      let held_try = leb-true 1 (held was.cells).fields.tries (try_held s first.0 compared first.1) in
       stays (subst (λ (f : PlainRecord). 1 ≤ f.tries) (held_fields was.store was.device was.cells mounted) held_try)
   by (inr goes) = stays (earlier (phase_tries session.run ∙ goes))
 
@@ -101,10 +110,10 @@ pub try_stays : (session : Session) (channel : Option ChannelState) (fragments :
 try_stays session channel fragments incoming asks r finished reply left was now mounted earlier ended tries =
     let old : State = chained fragments (state session channel) in
     let s : Situation = situation (held was.cells) old incoming (answers_of asks) in
-    let next : phase_of r.session.run ≡ (state_due r.rule.0 (state_answered r.rule.0 (kind_incoming old incoming) (command_of incoming) (answers_of asks) old)).phase = ap (λ (x : State). x.phase) ended.next in
-    let goes : goes_on_with_pin (state_due r.rule.0 (state_answered r.rule.0 (kind_incoming old incoming) (command_of incoming) (answers_of asks) old)).phase ≡ true =
+    let next : phase_of r.session.run ≡ (state_due r.rule.0 (state_answered (held was.cells).fields r.rule.0 (kind_incoming old incoming) (command_of incoming) (answers_of asks) old)).phase = ap (λ (x : State). x.phase) ended.next in
+    let goes : goes_on_with_pin (state_due r.rule.0 (state_answered (held was.cells).fields r.rule.0 (kind_incoming old incoming) (command_of incoming) (answers_of asks) old)).phase ≡ true =
     ap goes_on_with_pin (sym next) ∙ sym (phase_tries r.session.run) ∙ tries in
-    let went = continued_at (ends_session_by r.rule.0) (r.rule.0 == 0) r.rule.0 (kind_incoming old incoming) (command_of incoming) (answers_of asks) old refl refl goes in
+    let went = continued_at (held was.cells).fields (ends_session_by r.rule.0) (r.rule.0 == 0) r.rule.0 (kind_incoming old incoming) (command_of incoming) (answers_of asks) old refl refl goes in
     tries_left session channel fragments incoming asks r reply was now mounted earlier ended.ended.1 ended.leaves.0 ended.leaves.1 went
 
 -- and so after a response

@@ -12,9 +12,8 @@ use Rattle.eid_store.specs.Stands.{stands}
 use Rattle.eid_store.specs.Store as store
 use Rattle.eid_sm.specs.declared.channel.Header.{Header}
 use Rattle.eid_sm.specs.Plain.{plain_of as with_body}
-use Rattle.eid_model.specs.Ledger.{kept, pending, MayHold}
+use Rattle.eid_model.specs.Ledger.{kept, pending, state_of, MayHold}
 use Rattle.eid_model.specs.Moments.{Received, PlainMoment, on}
-use Rattle.eid_model.specs.Sessions.{state_of}
 use Rattle.eid_model.specs.Legal.{IsLegalMoment, silent}
 use Rattle.eid_model.specs.View as view
 use Rattle.eid_chip.specs.declared.exchange.Exchange.{Exchange}

@@ -2,11 +2,12 @@
 use Rattle.std.specs.Prelude.{Option, Some, None, option_map}
 use Rattle.eid_apdu.specs.Chaining.{OpenChain}
 use Rattle.eid_bits.specs.Template.{template_bytes}
+use Rattle.eid_cvc.specs.Chains.{chain_view}
 use Rattle.eid_pace.specs.View.{chosen_view, nonce_sent_view, mapped_view, agreed_view}
 use Rattle.eid_sm.specs.Keys.{ChannelState}
 use Rattle.eid_model.specs.declared.kind.Kind.{Kind}
-use Rattle.eid_model.specs.declared.kind.Kind.TheVariants.{EncryptedNonce, MapNonce, PerformKeyAgreement, MutualAuthentication}
-use Rattle.eid_model.specs.Runs.{Phase, Idle, Chose, SentNonce, HasBase, HasSecret}
+use Rattle.eid_model.specs.declared.kind.Kind.TheVariants.{VerifyCertificate, EncryptedNonce, MapNonce, PerformKeyAgreement, MutualAuthentication}
+use Rattle.eid_model.specs.Runs.{Phase, Idle, Chose, SentNonce, HasBase, HasSecret, ChoseKey}
 use Rattle.eid_model.specs.Sessions.{State, PaceMemory}
 use Rattle.eid_chip.specs.declared.session.Run.{Run}
 use Rattle.eid_chip.specs.declared.session.Run.TheVariants as runs
@@ -22,6 +23,7 @@ next_of (runs.Chosen chosen) = Some EncryptedNonce
 next_of (runs.NonceSent sent) = Some MapNonce
 next_of (runs.Mapped mapped) = Some PerformKeyAgreement
 next_of (runs.Agreed agreed) = Some MutualAuthentication
+next_of (runs.KeyChosen name) = Some VerifyCertificate
 
 abbrev pub phase_of : Run → Phase
 phase_of runs.Idle = Idle
@@ -29,6 +31,7 @@ phase_of (runs.Chosen chosen) = Chose (chosen_view chosen)
 phase_of (runs.NonceSent sent) = SentNonce (nonce_sent_view sent)
 phase_of (runs.Mapped mapped) = HasBase (mapped_view mapped)
 phase_of (runs.Agreed agreed) = HasSecret (agreed_view agreed)
+phase_of (runs.KeyChosen name) = ChoseKey name.items
 
 -- what is kept of a PACE
 abbrev pub memory : LastPace → PaceMemory
@@ -42,6 +45,7 @@ state s channel = record {
   selected = s.memory.selected;
   current = option_map (λ file. file.0) s.memory.current;
   pace = option_map memory s.memory.pace;
+  certificates = chain_view s.memory.certificates;
   channel = channel;
   chaining = None;
 }

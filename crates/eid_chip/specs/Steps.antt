@@ -1,7 +1,7 @@
 -- Inside: cited by private contracts alone.
 -- What one step of the chip promises: the questions that it puts, the outcome by the rules, and what the session is
 -- after it.
-use Rattle.std.specs.Prelude.{◌≡◌, ℕ, ◌<◌, ◌==◌, ◌||◌, true, List, [], ◌∷◌, ◌++◌, length, Option, Some, None, option_map, if◌then◌else◌}
+use Rattle.std.specs.Prelude.{◌≡◌, ℕ, ◌<◌, ◌==◌, ◌||◌, true, List, [], ◌∷◌, ◌++◌, length, Option, Some, None, option_map, Ok, if◌then◌else◌}
 use Rattle.std.specs.Option.{option_or}
 use Rattle.eid_apdu.specs.Command.{PlainCommand}
 use Rattle.eid_apdu.specs.Chaining.{OpenChain}
@@ -9,6 +9,12 @@ use Rattle.eid_apdu.specs.Answer.{PlainReply, spelled}
 use Rattle.eid_copro.specs.Seen.{CoproSeen}
 use Rattle.eid_copro.specs.declared.ask.Ask.{Ask}
 use Rattle.eid_copro.specs.declared.ask.Answer.{Answer}
+use Rattle.eid_copro.specs.declared.ask.Answer.TheVariants as answers
+use Rattle.eid_copro.specs.declared.ask.Question.TheVariants as questions
+use Rattle.sha2.specs.Sha256.{sha256}
+use Rattle.eid_cvc.specs.Certificates.{PlainCertificate}
+use Rattle.eid_cvc.specs.CertificateIn.{certificate_in}
+use Rattle.eid_trust.specs.Trust.{PlainAccepted, accept_given}
 use Rattle.eid_record.specs.Plain.{FullRecord, PlainEffect}
 use Rattle.eid_copro.specs.Asking.{WereAsked}
 use Rattle.eid_password.specs.Passwords.{active_rule, try_rule, resumed_rule}
@@ -21,14 +27,15 @@ use Rattle.eid_model.specs.Runs.{answers_of}
 use Rattle.eid_model.specs.Sessions.{State, fresh, memory_of, keys_of, channel_after}
 use Rattle.eid_model.specs.Bodies.{data_in, holds_value}
 use Rattle.eid_model.specs.Runs as phases
-use Rattle.eid_model.specs.Rules.{Incoming, OfCommand, plain_of, Situation, RuleRow, kind_rules, answer_rules, proof_rules, committing, concerns, first_failed, to_commit}
-use Rattle.eid_model.specs.Answers.{Outcome, outcome, question, question_of, success_of, status_alone, due, outcome_of, question_by, due_by, situation, kind_incoming, command_of}
+use Rattle.eid_model.specs.Rules.{Incoming, OfCommand, plain_of, Situation, RuleRow, kind_rules, answer_rules, proof_rules, committing, concerns, first_failed, to_commit, name_chosen}
+use Rattle.eid_model.specs.Answers.{Outcome, outcome, question, success_of, status_alone, due, outcome_of, question_by, due_by, situation, kind_incoming, command_of}
 use Rattle.eid_model.specs.Legal.{IsReadAs, AreAsked}
-use Rattle.eid_chip.specs.Transitions.{state_answered, state_by_kind, state_carried_out, two_messages_later, without_run}
+use Rattle.eid_chip.specs.Transitions.{state_answered, state_by_kind, state_carried_out, state_refused, two_messages_later, with_certificates}
 use Rattle.eid_chip.specs.declared.session.Session.{Session}
 use Rattle.eid_chip.specs.declared.session.Memory.{Memory}
 use Rattle.eid_chip.specs.declared.session.Run.TheVariants as runs
 use Rattle.eid_pace.specs.States.{PlainDone}
+use Rattle.eid_cvc.specs.Chains.{PlainChain, no_chain}
 use Rattle.eid_pace.specs.declared.agreed.Agreed.{Agreed}
 use Rattle.eid_chip.specs.States.{chained, state}
 use Rattle.eid_chip.specs.declared.refusal.Refusal.{Refusal}
@@ -87,7 +94,7 @@ pub record IsAnsweredByKind (kind : Kind) (kept : FullRecord) (old : State) (c :
     (reply : PlainReply) : Type 0 where
   pub asked : AreAsked (λ answers. question_by kind_rules (known kind kept old c answers)) [] asks
   pub ended : outcome_of kind_rules (known kind kept old c (answers_of asks)) ≡ outcome_seen reaction reply
-  pub left : state_left reaction old.channel ≡ state_due reaction.rule.0 (state_by_kind reaction.rule.0 kind c (answers_of asks) old)
+  pub left : state_left reaction old.channel ≡ state_due reaction.rule.0 (state_by_kind kept.fields reaction.rule.0 kind c (answers_of asks) old)
 
 -- a command of a known kind put questions, by which the log grew, and was answered by them, in any channel
 pub record Stepped (before after : CoproSeen) (kind : Kind) (kept : FullRecord) (session : Session) (c : PlainCommand) (reaction : Reaction)
@@ -116,19 +123,36 @@ pub record IsEndedByKind (kind : Kind) (old : State) (c : PlainCommand) (asks : 
   pub asked : AreAsked (λ answers. question_by kind_rules (known kind (held before.cells) old c answers)) [] asks
   pub ended : IsEnding (due_by kind_rules (known kind (held before.cells) old c (answers_of asks)))
       (outcome_of kind_rules (known kind (held before.cells) old c (answers_of asks))) ending reply
-  pub next : IsNext (λ rule. state_by_kind rule kind c (answers_of asks) old) ending old.channel None
+  pub next : IsNext (λ rule. state_by_kind (held before.cells).fields rule kind c (answers_of asks) old) ending old.channel None
   pub leaves : Leaves (due_by kind_rules (known kind (held before.cells) old c (answers_of asks))) (held before.cells) ending before after
 
--- A command of a kind that commits one effect, puts no question, proves nothing, and answers no data: no rule before its
--- commit fails.
-pub record CommitsOne (kind : Kind) (kept : FullRecord) (old : State) (c : PlainCommand) (effect : PlainEffect) : Type 0 where
-  pub passes : first_failed (kind_rules ++ answer_rules) (known kind kept old c []) ≡ None
+-- A command of a kind that commits one effect, proves nothing behind it, and answers no data, with the certificates that it
+-- leaves, where it changes them: it puts these questions, and no rule before its commit fails.
+pub record CommitsOne (kind : Kind) (kept : FullRecord) (old : State) (c : PlainCommand) (asks : List Ask) (effect : PlainEffect)
+    (certificates : Option PlainChain) : Type 0 where
+  pub asked : AreAsked (λ answers. question_by kind_rules (known kind kept old c answers)) [] asks
+  pub passes : first_failed (kind_rules ++ answer_rules) (known kind kept old c (answers_of asks)) ≡ None
   pub committing : concerns committing (Some kind) ≡ true
-  pub commits : to_commit (Some kind) (known kind kept old c []) ≡ effect ∷ []
-  pub unasked : question_of (Some kind) (known kind kept old c []) ≡ None
-  pub proves : first_failed proof_rules (known kind kept old c []) ≡ None
-  pub answers : success_of kind (known kind kept old c []) ≡ status_alone 0x9000
-  pub leaves : state_carried_out kind c [] old ≡ record (without_run old) { channel = option_map two_messages_later old.channel }
+  pub commits : to_commit (Some kind) (known kind kept old c (answers_of asks)) ≡ effect ∷ []
+  pub proves : first_failed proof_rules (known kind kept old c (answers_of asks)) ≡ None
+  pub answers : success_of kind (known kind kept old c (answers_of asks)) ≡ status_alone 0x9000
+  pub leaves : state_carried_out kept.fields kind c (answers_of asks) old ≡ with_certificates certificates (state_refused old)
+
+-- the question about the signature of a certificate, with its answer
+abbrev pub verify_ask : PlainCertificate → PlainAccepted → Answer → Ask
+verify_ask certificate accepted answer =
+    record { question = questions.Verify accepted.key (sha256 certificate.whole) certificate.signature; answer = answer }
+
+-- a certificate stands in this command that may be accepted, and this follows from it
+pub record Imports (kept : FullRecord) (old : State) (c : PlainCommand) (certificate : PlainCertificate) (accepted : PlainAccepted) : Type 0 where
+  pub reads : certificate_in c.body ≡ Some certificate
+  pub given : Ok accepted ≡ accept_given kept.fields old.certificates (name_chosen old.phase) certificate.body
+
+-- and its signature was found right
+pub record WasRight (kept : FullRecord) (old : State) (c : PlainCommand) (accepted : PlainAccepted) (asks : List Ask) : Type 0 where
+  pub certificate : PlainCertificate
+  pub imports : Imports kept old c certificate accepted
+  pub found : asks ≡ verify_ask certificate accepted (answers.Verdict true) ∷ []
 
 -- the terminal's token stands in this command
 pub record SendsToken (c : PlainCommand) (token : List ℕ) : Type 0 where
@@ -147,6 +171,7 @@ state_with_pace old done = record {
   selected = old.selected;
   current = option_map (λ file. file.0) old.current;
   pace = Some (memory_of done);
+  certificates = no_chain;
   channel = Some (channel_after 0 (keys_of done));
   chaining = None;
 }
@@ -165,7 +190,7 @@ pub record IsEndedByRules (old : State) (incoming : Incoming) (asks : List Ask) 
   pub asked : AreAsked (λ answers. question (situation (held before.cells) old incoming answers)) [] asks
   pub ended : IsEnding (due (situation (held before.cells) old incoming (answers_of asks)))
       (outcome (situation (held before.cells) old incoming (answers_of asks))) ending reply
-  pub next : IsNext (λ rule. state_answered rule (kind_incoming old incoming) (command_of incoming) (answers_of asks) old) ending old.channel chaining
+  pub next : IsNext (λ rule. state_answered (held before.cells).fields rule (kind_incoming old incoming) (command_of incoming) (answers_of asks) old) ending old.channel chaining
   pub leaves : Leaves (due (situation (held before.cells) old incoming (answers_of asks))) (held before.cells) ending before after
 
 -- and so a command, with these fragments before it, in any channel
@@ -181,7 +206,7 @@ pub record IsAnsweredByRules (kept : FullRecord) (old : State) (incoming : Incom
   pub asked : AreAsked (λ answers. question (situation kept old incoming answers)) [] asks
   pub ended : outcome (situation kept old incoming (answers_of asks)) ≡ outcome_seen reaction reply
   pub undue : due (situation kept old incoming (answers_of asks)) ≡ []
-  pub left : state_left reaction old.channel ≡ state_due reaction.rule.0 (state_answered reaction.rule.0 (kind_incoming old incoming) (command_of incoming)
+  pub left : state_left reaction old.channel ≡ state_due reaction.rule.0 (state_answered kept.fields reaction.rule.0 (kind_incoming old incoming) (command_of incoming)
       (answers_of asks) old)
 
 -- bytes were incoming, in a channel or without one, with these fragments before them, and the command ended so

@@ -14,6 +14,7 @@ tries_pin (runs.Chosen chosen) = false
 tries_pin (runs.NonceSent sent) = is_pin (nonce_sent_view sent).choice.password
 tries_pin (runs.Mapped mapped) = is_pin (mapped_view mapped).choice.password
 tries_pin (runs.Agreed agreed) = is_pin (agreed_view agreed).choice.password
+tries_pin (runs.KeyChosen name) = false
 
 -- where it has, a try is left
 abbrev pub IsTryLeft : Run → PlainRecord → Type 0

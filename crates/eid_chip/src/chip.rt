@@ -15,16 +15,20 @@ ghost use Rattle.eid_store.specs.Stands.{stands};
 ghost use Rattle.eid_sm.specs.Plain.{plain_of};
 ghost use Rattle.eid_model.specs.Moments.{PoweredOn, PoweredOff, ends_session_by};
 ghost use Rattle.eid_model.specs.Kinds.{goes_on_in_run};
+ghost use Rattle.eid_model.specs.Runs.{is_piece_of_next};
 ghost use Rattle.eid_model.specs.Legal.{silent};
 ghost use Rattle.eid_chip.specs.Commits.{MOST_MOUNTING};
 ghost use Rattle.eid_chip.specs.Held.{held};
 ghost use Rattle.eid_chip.specs.Naming.{IsLast, Passes};
-ghost use Rattle.eid_chip.specs.States.{next_of};
+ghost use Rattle.eid_sm.specs.Keys.{ChannelState};
+ghost use Rattle.eid_chip.specs.States.{next_of, state};
+ghost use Rattle.eid_chip.specs.Transitions.{state_later, state_piece};
 ghost use Rattle.eid_chip.specs.Tries.{IsTryLeft};
 ghost use Rattle.eid_chip.specs.Worlds.{IsMounted, world};
 ghost use Rattle.eid_chip.specs.Steps.{Performed, Reacts, Responds, message_in, rule_of, sent_next};
 ghost use Rattle.eid_chip.specs.Fits.{plain_in};
 
+use crate::certificates::{select_public_key, verify_certificate};
 use crate::ending::{carried_out, ends_session, refused, uncommitted};
 use crate::exchange::{Exchange, Handled, HandledIn};
 use crate::naming::{Named, name_command};
@@ -36,7 +40,7 @@ use crate::reaction::{Ending, Reaction, Response};
 use crate::refusal::{BROKEN_CHAIN, LONG_REQUEST, NO_COMMAND, NO_OBJECTS, NO_STEP, WRONG_OBJECTS};
 use crate::running::Running;
 use crate::select::{read_binary, select_application, select_file, select_master_file};
-use crate::session::Session;
+use crate::session::{Run, Session};
 use arrayvec::ArrayVec;
 use eid_apdu::{Chain, Command, Fed, MAX_REQUEST, Reply, read_command, write_reply};
 use eid_base::Rule;
@@ -89,6 +93,8 @@ fn perform<E: Eeprom, C: Coprocessor>(
         Kind::SelectFile => uncommitted(select_file(session, c, reply)),
         Kind::ReadBinary => uncommitted(read_binary(session, store, cells, c, reply)),
         Kind::SelectPace => uncommitted(select_pace(session, store.kept(), c, reply)),
+        Kind::SelectPublicKey => { uncommitted(select_public_key(session, store.kept(), c, reply)) }
+        Kind::VerifyCertificate => verify_certificate(session, store, cells, copro, c, reply),
         Kind::EncryptedNonce => {
             uncommitted(encrypted_nonce(session, store, cells, copro, c, reply))
         }
@@ -117,8 +123,35 @@ fn whole_request<'a>(c: &Command<'_>, body: &'a [u8]) -> Command<'a>
     }
 }
 
+/// Whether a fragment is one of the request that comes next in the run: only certificates come in fragments.
+fn is_piece_of_next(run: &Run, c: &Command<'_>) -> bool
+    requires fragment { is_fragment (plain_command c.now) ≡ true }
+    ensures { result ≡ is_piece_of_next (next_of run.now) (Some (plain_command c.now)) }
+{
+    match run {
+        Run::Idle => false,
+        Run::Chosen(_) => false,
+        Run::NonceSent(_) => false,
+        Run::Mapped(_) => false,
+        Run::Agreed(_) => false,
+        Run::KeyChosen(_) => c.ins == 0x2a && u16::from(c.p1) * 256 + u16::from(c.p2) == 0x00be,
+    }
+}
+
+/// The session after a fragment: its run goes on where the request comes next in it.
+fn after_fragment(session: Session, c: &Command<'_>) -> Session
+    requires fragment { is_fragment (plain_command c.now) ≡ true }
+    ensures { (channel : Option ChannelState) → state_later (state result channel) ≡ state_piece (plain_command c.now) (state session channel) }
+{
+    if is_piece_of_next(&session.run, c) {
+        session
+    } else {
+        session.without_run()
+    }
+}
+
 /// Takes a fragment, and answers 9000. Rule 7 is that it does not go on with the open chain, rule 8 that the request is then
-/// too long. It ends the run.
+/// too long. It ends the run, but one whose next step the request is.
 fn take_fragment(
     session: Session,
     chain: &mut Chain<MAX_REQUEST>,
@@ -133,7 +166,7 @@ fn take_fragment(
     ensures small { array_vec_len reply.new.content ≤ 2048 }
 {
     match chain.feed(c) {
-        Fed::More => uncommitted(carried_out(session.without_run(), reply)),
+        Fed::More => uncommitted(carried_out(after_fragment(session, c), reply)),
         Fed::Broken => uncommitted(refused(BROKEN_CHAIN, session, reply)),
         Fed::TooLong => uncommitted(refused(LONG_REQUEST, session, reply)),
         Fed::Whole => unreachable!(),

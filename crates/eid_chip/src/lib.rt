@@ -2,6 +2,7 @@
 #![tactic(auto)]
 
 mod authentication;
+mod certificates;
 mod chip;
 mod ending;
 mod exchange;

@@ -60,6 +60,7 @@ fn last_step(c: &Command<'_>, run: &Run) -> Kind
         Run::NonceSent(_) => Kind::NoStep,
         Run::Mapped(_) => Kind::NoStep,
         Run::Agreed(_) => Kind::MutualAuthentication,
+        Run::KeyChosen(_) => Kind::NoStep,
     }
 }
 
@@ -76,16 +77,71 @@ fn inner_step(c: &Command<'_>, run: &Run) -> Kind
         Run::NonceSent(_) => Kind::MapNonce,
         Run::Mapped(_) => Kind::PerformKeyAgreement,
         Run::Agreed(_) => Kind::NoStep,
+        Run::KeyChosen(_) => Kind::NoStep,
     }
 }
 
-/// A fragment of MSE:Set AT for PACE, by its parameters.
+/// The kind of a PSO:Verify Certificate of class 00, where it is next.
+fn verification(c: &Command<'_>, run: &Run) -> Kind
+    requires { (c.now.cla ≡ 0x00) × (c.now.ins ≡ 0x2A) × (c.now.p1 ≡ 0) × (c.now.p2 ≡ 0xBE) }
+    ensures named { kind_named (next_of run.now) (plain_command c.now) ≡ Some result }
+    ensures turn { goes_on_in_run result ≡ true → next_of run.now ≡ Some result }
+{
+    let _ = c;
+    match run {
+        Run::Idle => Kind::NoStep,
+        Run::Chosen(_) => Kind::NoStep,
+        Run::NonceSent(_) => Kind::NoStep,
+        Run::Mapped(_) => Kind::NoStep,
+        Run::Agreed(_) => Kind::NoStep,
+        Run::KeyChosen(_) => Kind::VerifyCertificate,
+    }
+}
+
+/// The kind of an MSE of class 00, by its parameters.
+fn environment(c: &Command<'_>, run: &Run) -> Result<Named, Refusal>
+    requires { (c.now.cla ≡ 0x00) × (c.now.ins ≡ 0x22) }
+    ensures named { IsNamed run.now (plain_command c.now) result }
+{
+    let _ = run;
+    match u16::from(c.p1) * 256 + u16::from(c.p2) {
+        0xc1a4 => Ok(Named::Last(Kind::SelectPace)),
+        0x81b6 => Ok(Named::Last(Kind::SelectPublicKey)),
+        _ => Err(PARAMETERS),
+    }
+}
+
+/// A PSO of class 00, by its parameters.
+fn operation(c: &Command<'_>, run: &Run) -> Result<Named, Refusal>
+    requires { (c.now.cla ≡ 0x00) × (c.now.ins ≡ 0x2A) }
+    ensures named { IsNamed run.now (plain_command c.now) result }
+{
+    if c.p1 != 0 || c.p2 != 0xbe {
+        return Err(PARAMETERS);
+    }
+    Ok(Named::Last(verification(c, run)))
+}
+
+/// A fragment of an MSE, by its parameters.
 fn fragment(c: &Command<'_>, run: &Run) -> Result<Named, Refusal>
     requires { (c.now.cla ≡ 0x10) × (c.now.ins ≡ 0x22) }
     ensures named { IsNamed run.now (plain_command c.now) result }
 {
     let _ = run;
-    if c.p1 != 0xc1 || c.p2 != 0xa4 {
+    match u16::from(c.p1) * 256 + u16::from(c.p2) {
+        0xc1a4 => Ok(Named::Fragment),
+        0x81b6 => Ok(Named::Fragment),
+        _ => Err(PARAMETERS),
+    }
+}
+
+/// A fragment of a PSO, by its parameters.
+fn operation_fragment(c: &Command<'_>, run: &Run) -> Result<Named, Refusal>
+    requires { (c.now.cla ≡ 0x10) × (c.now.ins ≡ 0x2A) }
+    ensures named { IsNamed run.now (plain_command c.now) result }
+{
+    let _ = run;
+    if c.p1 != 0 || c.p2 != 0xbe {
         return Err(PARAMETERS);
     }
     Ok(Named::Fragment)
@@ -109,6 +165,7 @@ fn chained(c: &Command<'_>, run: &Run) -> Result<Named, Refusal>
 {
     match c.ins {
         0x22 => fragment(c, run),
+        0x2a => operation_fragment(c, run),
         0x86 => chained_step(c, run),
         _ => Err(INSTRUCTION),
     }
@@ -131,8 +188,8 @@ fn plain_kind(c: &Command<'_>, run: &Run) -> Result<Named, Refusal>
     ensures named { IsNamed run.now (plain_command c.now) result }
 {
     match c.ins {
-        0x22 if c.p1 == 0xc1 && c.p2 == 0xa4 => Ok(Named::Last(Kind::SelectPace)),
-        0x22 => Err(PARAMETERS),
+        0x22 => environment(c, run),
+        0x2a => operation(c, run),
         0x2c => pin_management(c, run),
         0x86 => unchained_step(c, run),
         0xa4 => selection(c, run),

@@ -34,6 +34,7 @@ use eid_apdu::{Command, Reply};
 use eid_base::Rule;
 use eid_cells::Eeprom;
 use eid_copro::Coprocessor;
+use eid_cvc::ChainState;
 use eid_model::Kind;
 use eid_pace::{Agreed, Chosen, Done, rules};
 use eid_password::select_status;
@@ -241,6 +242,7 @@ fn accept(
             selected: memory.selected,
             current: memory.current,
             pace: Some(last_pace(done)),
+            certificates: ChainState::new(),
         }),
         opened: Some(channel_of(done)),
     }

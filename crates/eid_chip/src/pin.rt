@@ -1,10 +1,12 @@
 //! The management of the PIN by RESET RETRY COUNTER (BSI TR-03110-3), and what commits one effect.
-ghost use Rattle.std.specs.Prelude.{◌≡◌, ◌≤◌, [], true, false, IfSome, IfNone, Option, Some};
+ghost use Rattle.std.specs.Prelude.{◌≡◌, ◌≤◌, List, true, false, IfSome, IfNone, Option, Some, option_map};
 ghost use Rattle.std.specs.List.{list_all};
 ghost use Rattle.arrayvec.specs.ArrayVec.{array_vec_len};
 ghost use Rattle.eid_apdu.specs.Answer.{plain_reply};
 ghost use Rattle.eid_apdu.specs.Command.{PlainCommand, plain_command};
 ghost use Rattle.eid_copro.specs.Seen.{CoproSeen};
+ghost use Rattle.eid_copro.specs.declared.ask.Ask.{Ask};
+ghost use Rattle.eid_cvc.specs.Chains.{chain_view};
 ghost use Rattle.eid_record.specs.Effect.{CanApply};
 ghost use Rattle.eid_record.specs.EffectView.{effect_view};
 ghost use Rattle.eid_record.specs.Reading.{is_ascii_digit};
@@ -24,6 +26,7 @@ use crate::refusal::{BODY_FORM, NO_NUMBER, NO_PACE, NO_PIN_MANAGEMENT, NO_UNBLOC
 use crate::session::Session;
 use eid_apdu::{Command, Reply};
 use eid_cells::Eeprom;
+use eid_cvc::ChainState;
 use eid_model::Kind;
 use eid_record::{Effect, Password};
 use eid_store::Store;
@@ -58,9 +61,11 @@ fn pin_in(body: &[u8]) -> Option<[u8; PIN_SIZE]>
 }
 
 /// The end of a command that commits one effect, and of which nothing else is to be refused: it is committed, and 9000
-/// answered. Rule 54 is that there is no commit number left.
-fn commit_one<E: Eeprom>(
+/// answered, and with it the session has other certificates, where there are any. Rule 54 is that there is no commit number
+/// left.
+pub fn commit_one<E: Eeprom>(
     effect: &Effect<'_>,
+    certificates: Option<ChainState>,
     session: Session,
     store: &mut Store,
     cells: &mut E,
@@ -68,10 +73,10 @@ fn commit_one<E: Eeprom>(
 ) -> Ending
     requires fits { stored.Fits store.old (E.device cells.old) (E.cells cells.old) }
     requires effect { CanApply (effect_view effect.now) (stored.fields_of store.old) }
-    ensures ended { (copro : CoproSeen) (channel : Option ChannelState) (kind : Kind) (c : PlainCommand)
-        → CommitsOne kind (held (E.cells cells.old)) (state session channel) c (effect_view effect.now)
-        → IsEndedByKind kind (state session channel) c [] result (plain_reply reply.new)
-        (world copro store.old (E.device cells.old) (E.cells cells.old)) (world copro store.new (E.device cells.new) (E.cells cells.new)) }
+    ensures ended { (before after : CoproSeen) (channel : Option ChannelState) (kind : Kind) (c : PlainCommand) (asks : List Ask)
+        → CommitsOne kind (held (E.cells cells.old)) (state session channel) c asks (effect_view effect.now) (option_map chain_view certificates)
+        → IsEndedByKind kind (state session channel) c asks result (plain_reply reply.new)
+        (world before store.old (E.device cells.old) (E.cells cells.old)) (world after store.new (E.device cells.new) (E.cells cells.new)) }
     ensures layout { SameLayout (E.cells cells.old) (E.cells cells.new) }
     ensures small { array_vec_len reply.new.content ≤ 2048 }
 {
@@ -81,7 +86,7 @@ fn commit_one<E: Eeprom>(
     let Ok(_) = store.commit(cells, effect) else {
         return lost(0, reply);
     };
-    committed(carried_out(session.without_run(), reply), 1)
+    committed(carried_out(session.leaving(certificates), reply), 1)
 }
 
 /// RESET RETRY COUNTER with a new PIN, in a channel that the PIN opened. Rule 10 is a body other than six digits, rule 20
@@ -107,7 +112,7 @@ pub fn change_pin<E: Eeprom>(
     let Password::Pin = password else {
         return uncommitted(refused(NO_PIN_MANAGEMENT, session, reply));
     };
-    commit_one(&Effect::SetPin(pin), session, store, cells, reply)
+    commit_one(&Effect::SetPin(pin), None, session, store, cells, reply)
 }
 
 /// RESET RETRY COUNTER without data, in a channel that the PUK opened: the tries of the PIN are given back. Rule 10 is a
@@ -139,6 +144,7 @@ pub fn unblock_pin<E: Eeprom>(
     }
     commit_one(
         &Effect::Unblock { by_puk: true },
+        None,
         session,
         store,
         cells,

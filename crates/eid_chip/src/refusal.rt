@@ -97,6 +97,16 @@ pub const NO_PACE: Refusal = Refusal {
     rule: Rule(20),
     status: Status(0x6982),
 };
+/// The last PACE had no template.
+pub const NO_TEMPLATE: Refusal = Refusal {
+    rule: Rule(21),
+    status: Status(0x6985),
+};
+/// The name is neither a trust point's nor the document verifier's.
+pub const UNKNOWN_KEY: Refusal = Refusal {
+    rule: Rule(23),
+    status: Status(0x6A88),
+};
 /// The session has no terminal authentication.
 pub const NO_TERMINAL: Refusal = Refusal {
     rule: Rule(26),
@@ -137,6 +147,11 @@ pub const NO_POINT: Refusal = Refusal {
     rule: Rule(52),
     status: Status(0x6A80),
 };
+/// The signature is wrong.
+pub const WRONG_SIGNATURE: Refusal = Refusal {
+    rule: Rule(53),
+    status: Status(0x6300),
+};
 /// There is no commit number left.
 pub const NO_NUMBER: Refusal = Refusal {
     rule: Rule(54),
@@ -167,5 +182,15 @@ pub fn start_refusal(rule: Rule) -> Refusal
         rules::BLOCKED => BLOCKED,
         rules::SUSPENDED => SUSPENDED,
         _ => FAULT,
+    }
+}
+
+/// The certificate is refused by one of its own rules, before its signature is verified.
+pub fn bad_certificate(rule: Rule) -> Refusal
+    ensures { refusal result ≡ record { rule = rule.0; status = 0x6300 } }
+{
+    Refusal {
+        rule,
+        status: Status(0x6300),
     }
 }

@@ -45,7 +45,7 @@ pub fn select_application(session: Session, c: &Command<'_>, reply: &mut Reply) 
         idle(Memory {
             selected: true,
             current: None,
-            pace: session.memory.pace,
+            ..session.memory
         }),
         reply,
     )
@@ -64,7 +64,7 @@ pub fn select_master_file(session: Session, c: &Command<'_>, reply: &mut Reply) 
         idle(Memory {
             selected: false,
             current: None,
-            pace: session.memory.pace,
+            ..session.memory
         }),
         reply,
     )
@@ -84,9 +84,8 @@ pub fn select_file(session: Session, c: &Command<'_>, reply: &mut Reply) -> Reac
     };
     carried_out(
         idle(Memory {
-            selected: session.memory.selected,
             current: Some(file),
-            pace: session.memory.pace,
+            ..session.memory
         }),
         reply,
     )
@@ -130,9 +129,8 @@ fn after_read(session: Session, c: &Command<'_>, file: FileNo) -> Session
         return session.without_run();
     }
     idle(Memory {
-        selected: session.memory.selected,
         current: Some(file),
-        pace: session.memory.pace,
+        ..session.memory
     })
 }
 

@@ -1,9 +1,14 @@
 //! What a session leaves from one command to the next.
 ghost use Rattle.std.specs.Prelude.{◌≡◌};
 
+use arrayvec::ArrayVec;
 use eid_bits::Template;
+use eid_cvc::ChainState;
 use eid_pace::{Agreed, Chosen, Mapped, NonceSent};
 use eid_record::{FileNo, Password};
+
+/// The longest name of a public key, in bytes.
+pub const MAX_NAME: usize = 16;
 
 /// Where a run stands. The steps of PACE consume what the step before them left.
 #[derive(Drop)]
@@ -18,6 +23,8 @@ pub enum Run {
     Mapped(Mapped),
     /// The ephemeral points gave a secret.
     Agreed(Agreed),
+    /// The public key with this name is to verify the next certificate.
+    KeyChosen(ArrayVec<u8, MAX_NAME>),
 }
 
 /// What is asked of the last PACE later.
@@ -40,6 +47,8 @@ pub struct Memory {
     pub current: Option<FileNo>,
     /// The last PACE.
     pub pace: Option<LastPace>,
+    /// What the certificates accepted since then leave.
+    pub certificates: ChainState,
 }
 
 /// The session of a chip with power.
@@ -52,11 +61,12 @@ pub struct Session {
 }
 
 impl Session {
-    ghost use Rattle.std.specs.Prelude.{Option, None};
+    ghost use Rattle.std.specs.Prelude.{Option, None, option_map};
+    ghost use Rattle.eid_cvc.specs.Chains.{chain_view};
     ghost use Rattle.eid_sm.specs.Keys.{ChannelState};
     ghost use Rattle.eid_model.specs.Sessions.{fresh};
     ghost use Rattle.eid_chip.specs.States.{state};
-    ghost use Rattle.eid_chip.specs.Transitions.{without_run};
+    ghost use Rattle.eid_chip.specs.Transitions.{with_certificates, without_run};
 
     /// The session that power begins.
     pub fn new() -> Session
@@ -68,7 +78,22 @@ impl Session {
                 selected: false,
                 current: None,
                 pace: None,
+                certificates: ChainState::new(),
             },
+        }
+    }
+
+    /// The session without its run, with other certificates where there are any.
+    pub fn leaving(self, certificates: Option<ChainState>) -> Session
+        ensures { (channel : Option ChannelState)
+            → state result channel ≡ with_certificates (option_map chain_view certificates) (without_run (state self channel)) }
+    {
+        match certificates {
+            Some(certificates) => idle(Memory {
+                certificates,
+                ..self.memory
+            }),
+            None => self.without_run(),
         }
     }
 

@@ -20,7 +20,7 @@ use Rattle.eid_model.specs.Sessions.{channel}
 use Rattle.eid_model.specs.Rules.{Incoming, NoCommand, MissingObjects, WrongObjects, OfCommand}
 use Rattle.eid_model.specs.Answers.{Outcome, outcome, question, due}
 use Rattle.eid_model.specs.Legal.{IsReadPlain, IsReadProtected, IsReadAs, AreAsked, IsMoment, IsPowered, IsHandled, IsLegalFor, IsLegalMoment, AreLegal, answered, silent, situation_after, IsOnlyJournal}
-use Rattle.eid_model.specs.Ledger.{books, books_more, pending, kept}
+use Rattle.eid_model.specs.Ledger.{account, books, books_more, pending, kept, state_of}
 use Rattle.eid_model.proofs.KeyBytes.{channel_bytes}
 
 -- lists that are equal with one more item are equal without it
@@ -126,15 +126,15 @@ same_handled source false opening before bytes m n s t power m_kept n_kept p q =
 
 -- without a cut nothing is pending
 pub nothing_pending : (opening : FullRecord) (moments : List PlainMoment) → AreSteady moments → pending opening moments ≡ None
-unfolding books
+unfolding account
 nothing_pending opening [] steady = refl
 nothing_pending opening (m ∷ before) steady = by m.input refl (nothing_pending opening before steady.0) steady.1 where
-  handled : (power : Bool) (o : Option PlainReply) → on before ≡ power → m.answer ≡ o → pending opening before ≡ None → (is_none m.answer && on before) ≡ false → (books_more opening before m (Received []) (books opening before)).pending ≡ None
+  handled : (power : Bool) (o : Option PlainReply) → on before ≡ power → m.answer ≡ o → pending opening before ≡ None → (is_none m.answer && on before) ≡ false → (books_more opening (on before) (state_of opening before) m (Received []) (books opening before)).pending ≡ None
   handled false o power answer earlier kept = rw power earlier
   handled true None power answer earlier kept = absurd (let none : (is_none m.answer && on before) ≡ true = rw (answer, power) refl in cc)
   handled true (Some reply) power answer earlier kept = rw (power, answer) refl
 
-  by : (e : Event) → m.input ≡ e → pending opening before ≡ None → lost m before ≡ false → (books_more opening before m e (books opening before)).pending ≡ None
+  by : (e : Event) → m.input ≡ e → pending opening before ≡ None → lost m before ≡ false → (books_more opening (on before) (state_of opening before) m e (books opening before)).pending ≡ None
   by (PoweredOn None) is earlier kept = earlier
   by (PoweredOn (Some found)) is earlier kept = refl
   by PoweredOff is earlier kept = earlier

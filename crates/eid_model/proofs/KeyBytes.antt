@@ -10,9 +10,9 @@ use Rattle.eid_pace.specs.Check.{done_by}
 use Rattle.eid_sm.specs.Keys.{Keys, ChannelState}
 use Rattle.eid_sm.specs.Parts.{AreBytes}
 use Rattle.eid_model.specs.declared.kind.Kind.{Kind}
-use Rattle.eid_model.specs.declared.kind.Kind.TheVariants.{SelectApplication, SelectMasterFile, SelectFile, ReadBinary, SelectPace, EncryptedNonce, MapNonce, PerformKeyAgreement, MutualAuthentication, ChangePin, UnblockPin, NoStep}
+use Rattle.eid_model.specs.declared.kind.Kind.TheVariants.{SelectApplication, SelectMasterFile, SelectFile, ReadBinary, SelectPace, SelectPublicKey, VerifyCertificate, EncryptedNonce, MapNonce, PerformKeyAgreement, MutualAuthentication, ChangePin, UnblockPin, NoStep}
 use Rattle.eid_model.specs.Moments.{PlainMoment}
-use Rattle.eid_model.specs.Runs.{Phase, Idle, Chose, SentNonce, HasBase, HasSecret, run, phase}
+use Rattle.eid_model.specs.Runs.{Phase, Idle, Chose, SentNonce, HasBase, HasSecret, ChoseKey, run, phase}
 use Rattle.eid_model.specs.Sessions.{pace_done, pace_by, kind_of_moment, pace_completed, keys_of, channel_keys, channel, channel_after, commands_since_opening}
 
 -- each of them is a byte
@@ -59,11 +59,14 @@ done_bytes MutualAuthentication Idle done is = absurd (cc)
 done_bytes MutualAuthentication (Chose choice) done is = absurd (cc)
 done_bytes MutualAuthentication (SentNonce sent) done is = absurd (cc)
 done_bytes MutualAuthentication (HasBase mapped) done is = absurd (cc)
+done_bytes MutualAuthentication (ChoseKey name) done is = absurd (cc)
 done_bytes SelectApplication p done is = absurd (cc)
 done_bytes SelectMasterFile p done is = absurd (cc)
 done_bytes SelectFile p done is = absurd (cc)
 done_bytes ReadBinary p done is = absurd (cc)
 done_bytes SelectPace p done is = absurd (cc)
+done_bytes SelectPublicKey p done is = absurd (cc)
+done_bytes VerifyCertificate p done is = absurd (cc)
 done_bytes EncryptedNonce p done is = absurd (cc)
 done_bytes MapNonce p done is = absurd (cc)
 done_bytes PerformKeyAgreement p done is = absurd (cc)

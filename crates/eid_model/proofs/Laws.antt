@@ -1,12 +1,15 @@
 -- The laws of the tries of the PIN.
 use Rattle.std.proofs.Common.{◌≡◌, ℕ, ◌+◌, ◌-◌, ◌≤◌, Bool, true, false, ◌==◌, ◌&&◌, not, List, [], ◌∷◌, ◌++◌, length, take, Option, Some, None, refl, sym, ap, ◌∙◌, subst, arith, append_assoc, inl, inr}
-use Rattle.std.specs.Prelude.{◌⊎◌, is_some, option_map, option_and_then, if◌then◌else◌}
+use Rattle.std.proofs.lemmas.Bool.Decides.{nat_tests}
+use Rattle.eid_bits.specs.Date.{number_of}
+use Rattle.eid_trust.specs.Trust.{later_date}
+use Rattle.std.specs.Prelude.{◌⊎◌, nat_lt, is_some, option_map, option_and_then, if◌then◌else◌}
 use Rattle.std.proofs.lemmas.Bool.{and_parts, or_parts, not-false, leb-true, eqb-true}
 use Rattle.std.proofs.lemmas.List.{take_all, append_cancel_right}
 use Rattle.std.proofs.lemmas.List.Folds.{list_any-append}
 use Rattle.eid_apdu.specs.Command.{PlainCommand}
-use Rattle.eid_apdu.specs.Chaining.{request}
-use Rattle.eid_model.specs.Chains.{chaining, request_of}
+use Rattle.eid_apdu.specs.Chaining.{is_fragment, request}
+use Rattle.eid_model.specs.Chains.{as_fragment, chaining, fragment, request_of}
 use Rattle.eid_apdu.specs.Answer.{PlainReply}
 use Rattle.eid_copro.specs.declared.ask.Answer.{Answer}
 use Rattle.eid_copro.specs.declared.ask.Answer.TheVariants.{Nonce, Pair, Mapped, Shared}
@@ -14,15 +17,15 @@ use Rattle.eid_record.specs.Plain.{FullRecord, PlainEffect, Spend, Refill, Unblo
 use Rattle.eid_pace.specs.States.{PlainChoice}
 use Rattle.eid_password.specs.Passwords.{ALL_TRIES}
 use Rattle.eid_model.specs.declared.kind.Kind.{Kind}
-use Rattle.eid_model.specs.declared.kind.Kind.TheVariants.{SelectPace, EncryptedNonce, MapNonce, PerformKeyAgreement, MutualAuthentication}
+use Rattle.eid_model.specs.declared.kind.Kind.TheVariants.{SelectPace, SelectPublicKey, EncryptedNonce, MapNonce, PerformKeyAgreement, MutualAuthentication}
 use Rattle.eid_model.specs.Kinds.{kind_named}
-use Rattle.eid_model.specs.Moments.{Event, PoweredOn, PoweredOff, Received, PlainMoment, on, live, is_received, ends_session, ends_session_by, succeeded}
-use Rattle.eid_model.specs.Runs.{Step, Phase, Chose, SentNonce, HasBase, HasSecret, answers_of, kind_done, next, continued, run, entered, phase, as_chosen, choice_in, with_nonce, with_base, with_secret}
-use Rattle.eid_model.specs.Sessions.{state_of, channel}
-use Rattle.eid_model.specs.Bodies.{data_in}
+use Rattle.eid_model.specs.Moments.{Event, PoweredOn, PoweredOff, Received, PlainMoment, on, live, is_received, ends_session, ends_session_by, leaves_no_session, succeeded}
+use Rattle.eid_model.specs.Runs.{Step, Phase, Chose, SentNonce, HasBase, HasSecret, answers_of, kind_done, is_piece_of_next, next, continued, run, entered, phase, as_chosen, as_named, choice_in, with_nonce, with_base, with_secret}
+use Rattle.eid_model.specs.Sessions.{channel, fresh}
+use Rattle.eid_model.specs.Bodies.{data_in, key_name_in}
 use Rattle.eid_model.specs.Rules.{Incoming, NoCommand, MissingObjects, WrongObjects, OfCommand, plain_of, Situation, starts_pin, proves_pin, is_token, token_effects, to_commit}
 use Rattle.eid_model.specs.Answers.{outcome, due, kind_incoming}
-use Rattle.eid_model.specs.Ledger.{Books, books, books_more, books_handled, due_at, onto, tries_after, ledger, pending, kept}
+use Rattle.eid_model.specs.Ledger.{Books, account, books, state_of, books_more, books_handled, due_at, onto, tries_after, date_after, ledger, pending, kept}
 use Rattle.eid_model.specs.Legal.{silent, situation_after, answered, IsMoment, IsLegalFor, AreLegal}
 use Rattle.eid_model.specs.Laws.{kind_sent, is_last_step, compares_pin, refuses_pin, refused_pins, is_refill, gives_back, goes_on_with_pin}
 use Rattle.eid_model.proofs.Books.{books_at, due_incoming}
@@ -88,7 +91,7 @@ ledger_so opening before m a =
     let effects : List PlainEffect = due (at opening before a.incoming m) in
     let finished : m.finished ≡ length effects = ap (λ (x : PlainMoment). x.finished) a.moment in
     let all : take m.finished effects ≡ effects = take_all m.finished effects (omega (arith, finished)) in
-    let due_is : due_at (kept opening before) opening before m.plain m ≡ effects = due_incoming (kept opening before) opening before a.incoming m (plain_so opening before m a) in
+    let due_is : due_at (kept opening before) (state_of opening before) m.plain m ≡ effects = due_incoming (kept opening before) (state_of opening before) a.incoming m (plain_so opening before m a) in
     ap (λ (b : Books). b.ledger) (books_at opening before m a.bytes effects a.input a.power due_is)
     ∙ ap (λ (l : List PlainEffect). onto l (ledger opening before)) all
 
@@ -115,20 +118,20 @@ found_gains true (Some effect) before = (effect ∷ [], refl)
 found_gains false p before = ([], refl)
 
 gains_at : (e : Event) (opening : FullRecord) (before : List PlainMoment) (m : PlainMoment)
-    → (gained : List PlainEffect) × ((books_more opening before m e (books opening before)).ledger ≡ gained ++ ledger opening before)
+    → (gained : List PlainEffect) × ((books_more opening (on before) (state_of opening before) m e (books opening before)).ledger ≡ gained ++ ledger opening before)
 gains_at (PoweredOn None) opening before m = ([], refl)
 gains_at (PoweredOn (Some found)) opening before m = found_gains (found == (kept opening before).fields.number + 1) (pending opening before) (ledger opening before)
 gains_at PoweredOff opening before m = ([], refl)
 gains_at (Received bytes) opening before m = handled (on before) where
   effects : List PlainEffect
-  effects = due_at (kept opening before) opening before m.plain m
+  effects = due_at (kept opening before) (state_of opening before) m.plain m
 
   handled : (power : Bool) → (gained : List PlainEffect) × ((if power then books_handled effects m (books opening before) else books opening before).ledger ≡ gained ++ ledger opening before)
   handled true = onto_gains (take m.finished effects) (ledger opening before)
   handled false = ([], refl)
 
 gains : (opening : FullRecord) (m : PlainMoment) (before : List PlainMoment) → (gained : List PlainEffect) × (ledger opening (m ∷ before) ≡ gained ++ ledger opening before)
-unfolding books
+unfolding account
 gains opening m before = gains_at m.input opening before m
 
 pub nothing_lost : (opening : FullRecord) (later before : List PlainMoment) → (gained : List PlainEffect) × (ledger opening (later ++ before) ≡ gained ++ ledger opening before)
@@ -137,6 +140,46 @@ nothing_lost opening (m ∷ later) before =
     let g = gains opening m (later ++ before) in
     let h = nothing_lost opening later before in
     (g.0 ++ h.0, g.1 ∙ ap (λ (l : List PlainEffect). g.0 ++ l) h.1 ∙ sym (append_assoc g.0 h.0 (ledger opening before)))
+
+-- ---- where a session begins
+
+no_more : (a b : Bool) → not a ≡ true → not (a && b) ≡ true
+no_more true b e = absurd (cc)
+no_more false b e = refl
+
+pub begins_fresh : (opening : FullRecord) (m : PlainMoment) (before : List PlainMoment) → leaves_no_session m ≡ true → state_of opening (m ∷ before) ≡ fresh
+unfolding account
+begins_fresh opening m before leaves =
+    let ends : ends_session m ≡ true = no_more (is_received m.input && is_some m.answer) (not (ends_session_by m.rule)) leaves in
+    rw ends refl
+
+-- ---- the date never falls
+
+later_is_later : (a b : List ℕ) → number_of a ≤ number_of (later_date a b)
+later_is_later a b = by (nat_lt (number_of a) (number_of b)) refl where
+  by : (l : Bool) → nat_lt (number_of a) (number_of b) ≡ l → number_of a ≤ number_of (if l then b else a)
+  by true is = grind (arith, nat_tests)
+  by false is = omega arith
+
+date_rises : (opening : List ℕ) (gained before : List PlainEffect) → number_of (date_after opening before) ≤ number_of (date_after opening (gained ++ before))
+date_rises opening [] before = omega arith
+date_rises opening (Spend ∷ later) before = date_rises opening later before
+date_rises opening (Refill ∷ later) before = date_rises opening later before
+date_rises opening (Unblock by_puk ∷ later) before = date_rises opening later before
+date_rises opening (SetPin pin ∷ later) before = date_rises opening later before
+date_rises opening (SetCan can ∷ later) before = date_rises opening later before
+date_rises opening (Active active ∷ later) before = date_rises opening later before
+date_rises opening (Advance date current previous ∷ later) before =
+    let one = date_rises opening later before in
+    let more = later_is_later (date_after opening (later ++ before)) date in
+    omega (arith, one, more)
+date_rises opening (Write file offset bytes ∷ later) before = date_rises opening later before
+
+pub no_earlier : (opening : FullRecord) (later before : List PlainMoment) → number_of (kept opening before).fields.date ≤ number_of (kept opening (later ++ before)).fields.date
+no_earlier opening later before =
+    let g = nothing_lost opening later before in
+    subst (λ (l : List PlainEffect). number_of (date_after opening.fields.date (ledger opening before)) ≤ number_of (date_after opening.fields.date l)) (sym g.1)
+    (date_rises opening.fields.date g.0 (ledger opening before))
 
 -- ---- a token of the PIN
 
@@ -212,33 +255,39 @@ chose_goes : (choice : Option PlainChoice) → goes_on_with_pin (as_chosen choic
 chose_goes None e = cc
 chose_goes (Some choice) e = cc
 
--- What a kind carried out has to be, that a PACE with the PIN goes on: its first step, or one that goes on from such a
--- phase. It commits nothing.
-pub record GoesOn (kind : Kind) (before : Phase) : Type 0 where
-  pub commits_nothing : (s : Situation) → to_commit (Some kind) s ≡ []
-  pub by_step : ((kind ≡ EncryptedNonce) × (starts_pin before ≡ true)) ⊎ (goes_on_with_pin before ≡ true)
+named_goes : (name : Option (List ℕ)) → goes_on_with_pin (as_named name) ≡ true → ⊥
+named_goes None e = cc
+named_goes (Some name) e = cc
 
-pub goes_entered : (kind : Kind) (c : PlainCommand) (given : List Answer) (before : Phase) → goes_on_with_pin (entered kind c given before) ≡ true → GoesOn kind before
+-- What a request carried out has to be, that a PACE with the PIN goes on: its first step, or one that goes on from such a
+-- phase. It commits nothing.
+pub record GoesOn (kind : Option Kind) (before : Phase) : Type 0 where
+  pub commits_nothing : (s : Situation) → to_commit kind s ≡ []
+  pub by_step : ((kind ≡ Some EncryptedNonce) × (starts_pin before ≡ true)) ⊎ (goes_on_with_pin before ≡ true)
+
+pub goes_entered : (kind : Kind) (c : PlainCommand) (given : List Answer) (before : Phase) → goes_on_with_pin (entered kind c given before) ≡ true → GoesOn (Some kind) before
 unfolding entered
 goes_entered SelectPace c given before e = absurd (chose_goes (choice_in c.body) e)
+goes_entered SelectPublicKey c given before e = absurd (named_goes (key_name_in c.body) e)
 goes_entered EncryptedNonce c given before e = record { commits_nothing = λ s. refl; by_step = inl (refl, nonce_goes given before e) }
 goes_entered MapNonce c given before e = record { commits_nothing = λ s. refl; by_step = inr (base_goes given before e) }
 goes_entered PerformKeyAgreement c given before e = record { commits_nothing = λ s. refl; by_step = inr (secret_goes (data_in c.body) given before e) }
 goes_entered kind c given before e = absurd (cc)
 
-goes_by : (kind : Kind) (c : PlainCommand) (given : List Answer) (steps : List Step) → goes_on_with_pin (phase (continued (Some kind) (Some c) given steps)) ≡ true → GoesOn kind (phase steps)
+goes_by : (kind : Kind) (c : PlainCommand) (given : List Answer) (steps : List Step) → goes_on_with_pin (phase (continued (Some kind) (Some c) given steps)) ≡ true → GoesOn (Some kind) (phase steps)
 unfolding entered
 goes_by SelectPace c given steps e = absurd (chose_goes (choice_in c.body) e)
+goes_by SelectPublicKey c given steps e = absurd (named_goes (key_name_in c.body) e)
 goes_by EncryptedNonce c given steps e = goes_entered EncryptedNonce c given (phase steps) e
 goes_by MapNonce c given steps e = goes_entered MapNonce c given (phase steps) e
 goes_by PerformKeyAgreement c given steps e = goes_entered PerformKeyAgreement c given (phase steps) e
 goes_by kind c given steps e = absurd (cc)
 
--- The newest moment carried out such a kind.
+-- The newest moment carried out such a request.
 record WentOn (before : List PlainMoment) (m : PlainMoment) : Type 0 where
-  kind : Kind
+  kind : Option Kind
   carried_out : m.rule ≡ 0
-  sent : kind_sent m before ≡ Some kind
+  sent : kind_sent m before ≡ kind
   goes : GoesOn kind (phase (run (live before)))
 
 went_on : (before : List PlainMoment) (m : PlainMoment) (done : Option Kind) (whole : Option PlainCommand)
@@ -250,8 +299,34 @@ went_on before m (Some kind) (Some c) some is e = by (succeeded m) refl where
   by : (b : Bool) → succeeded m ≡ b → WentOn before m
   by true b =
       let both = and_parts (is_some m.answer) (m.rule == 0) b in
-      record { kind = kind; carried_out = eqb-true m.rule 0 both.1; sent = rw b at some; goes = goes_by kind c (answers_of m.asks) (run (live before)) e }
+      record { kind = Some kind; carried_out = eqb-true m.rule 0 both.1; sent = rw b at some; goes = goes_by kind c (answers_of m.asks) (run (live before)) e }
   by false b = absurd (let none : kind_done (next (run (live before))) m (live before) ≡ None = rw b refl in cc)
+
+-- a fragment of the next step is of no kind, and the run stays as it is
+piece_sent : (m : PlainMoment) (before : List PlainMoment) (o : Option PlainCommand) → m.plain ≡ o → is_some (option_and_then as_fragment o) ≡ true → kind_sent m before ≡ None
+piece_sent m before None plain e = absurd (cc)
+piece_sent m before (Some c) plain e = by (is_fragment c) refl e where
+  by : (b : Bool) → is_fragment c ≡ b → is_some (if b then Some c else None) ≡ true → kind_sent m before ≡ None
+  by true is e = rw (plain, is) refl
+  by false is e = absurd (cc)
+
+piece_some : (kind : Option Kind) (piece : Option PlainCommand) → is_piece_of_next kind piece ≡ true → is_some piece ≡ true
+piece_some None piece e = absurd (cc)
+piece_some (Some kind) None e = absurd (cc)
+piece_some (Some kind) (Some c) e = refl
+
+stayed : (before : List PlainMoment) (m : PlainMoment) → is_piece_of_next (next (run (live before))) (fragment m) ≡ true → goes_on_with_pin (phase (run (live before))) ≡ true → WentOn before m
+stayed before m piece e = by (succeeded m) refl (piece_some (next (run (live before))) (fragment m) piece) where
+  by : (b : Bool) → succeeded m ≡ b → is_some (if b then option_and_then as_fragment m.plain else None) ≡ true → WentOn before m
+  by true b some =
+      let both = and_parts (is_some m.answer) (m.rule == 0) b in
+      record { kind = None; carried_out = eqb-true m.rule 0 both.1; sent = piece_sent m before m.plain refl some; goes = record { commits_nothing = λ s. refl; by_step = inr e } }
+  by false b some = absurd (cc)
+
+went : (before : List PlainMoment) (m : PlainMoment) (piece : Bool) → is_piece_of_next (next (run (live before))) (fragment m) ≡ piece
+    → goes_on_with_pin (phase (if piece then run (live before) else continued (kind_done (next (run (live before))) m (live before)) (request_of m (live before)) (answers_of m.asks) (run (live before)))) ≡ true → WentOn before m
+went before m true is e = stayed before m is e
+went before m false is e = went_on before m (kind_done (next (run (live before))) m (live before)) (request_of m (live before)) refl refl e
 
 abbrev tries_at : FullRecord → List PlainMoment → ℕ
 tries_at opening moments = tries_after opening.fields.tries (ledger opening moments)
@@ -268,7 +343,7 @@ left_more opening before m a w earlier = by w.goes.by_step where
   s : Situation
   s = at opening before a.incoming m
 
-  kind : s.kind ≡ Some w.kind
+  kind : s.kind ≡ w.kind
   kind = sym (kind_so opening before m a) ∙ w.sent
 
   compared : is_compared m.rule ≡ true
@@ -283,10 +358,10 @@ left_more opening before m a w earlier = by w.goes.by_step where
   kept_so : 1 ≤ tries_at opening before → 1 ≤ tries_at opening (m ∷ before)
   kept_so left = subst (λ (l : List PlainEffect). 1 ≤ tries_after opening.fields.tries l) (sym same) left
 
-  by : ((w.kind ≡ EncryptedNonce) × (starts_pin (phase (run (live before))) ≡ true)) ⊎ (goes_on_with_pin (phase (run (live before))) ≡ true) → 1 ≤ tries_at opening (m ∷ before)
+  by : ((w.kind ≡ Some EncryptedNonce) × (starts_pin (phase (run (live before))) ≡ true)) ⊎ (goes_on_with_pin (phase (run (live before))) ≡ true) → 1 ≤ tries_at opening (m ∷ before)
   by (inl first) =
       let so : is_compared (outcome s).rule ≡ true = subst (λ (n : ℕ). is_compared n ≡ true) (rule_so opening before m a) compared in
-      kept_so (leb-true 1 (tries_at opening before) (try_held s (kind ∙ ap (λ (k : Kind). Some k) first.0) so first.1))
+      kept_so (leb-true 1 (tries_at opening before) (try_held s (kind ∙ first.0) so first.1))
   by (inr goes) = kept_so (earlier goes)
 
 pub try_left : (opening : FullRecord) (moments : List PlainMoment) → AreLegal opening moments → goes_on_with_pin (phase (run (live moments))) ≡ true → 1 ≤ (kept opening moments).fields.tries
@@ -296,7 +371,7 @@ try_left opening (m ∷ before) legal e = by (ends_session m) refl (try_left ope
   by true b earlier = absurd (let none : goes_on_with_pin (phase (run (live (m ∷ before)))) ≡ false = rw b refl in cc)
   by false b earlier =
       left_more opening before m (answered_for m.input opening before m refl legal.0 (goes_answered m b))
-      (went_on before m (kind_done (next (run (live before))) m (live before)) (request_of m (live before)) refl refl (rw b at e)) earlier
+      (went before m (is_piece_of_next (next (run (live before))) (fragment m)) refl (rw b at e)) earlier
 
 -- ---- at most three wrong tokens
 

@@ -6,3 +6,4 @@ pub mod Books
 pub mod Forms
 pub mod Compared
 pub mod Laws
+pub mod KeyNames

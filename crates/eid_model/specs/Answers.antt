@@ -1,5 +1,5 @@
 -- How a command is answered (ISO/IEC 7816-4, BSI TR-03110-3).
-use Rattle.std.specs.Prelude.{ℕ, ◌==◌, ◌&&◌, ◌||◌, not, nat_lt, List, [], ◌∷◌, ◌++◌, length, take, drop, Option, Some, None, is_none, unwrap_or, if◌then◌else◌}
+use Rattle.std.specs.Prelude.{ℕ, ◌==◌, ◌&&◌, ◌||◌, not, nat_lt, List, [], ◌∷◌, ◌++◌, length, take, drop, Option, Some, None, is_none, option_map, unwrap_or, if◌then◌else◌}
 use Rattle.eid_apdu.specs.Command.{PlainCommand}
 use Rattle.eid_apdu.specs.Chaining.{OpenChain, continues, request}
 use Rattle.eid_apdu.specs.Answer.{PlainReply}
@@ -13,8 +13,13 @@ use Rattle.eid_password.specs.Passwords.{digits_of, select_status}
 use Rattle.eid_pace.specs.Check.{chip_token}
 use Rattle.eid_pace.specs.Keys.{encrypted_nonce}
 use Rattle.eid_pace.specs.States.{PlainChoice}
+use Rattle.sha2.specs.Sha256.{sha256}
+use Rattle.eid_cvc.specs.Certificates.{PlainCertificate}
+use Rattle.eid_cvc.specs.CertificateIn.{certificate_in}
+use Rattle.eid_cvc.specs.Chains.{PlainChain}
+use Rattle.eid_trust.specs.Trust.{key_of, signer_of}
 use Rattle.eid_model.specs.declared.kind.Kind.{Kind}
-use Rattle.eid_model.specs.declared.kind.Kind.TheVariants.{SelectApplication, SelectMasterFile, SelectFile, ReadBinary, SelectPace, EncryptedNonce, MapNonce, PerformKeyAgreement, MutualAuthentication, ChangePin, UnblockPin, NoStep}
+use Rattle.eid_model.specs.declared.kind.Kind.TheVariants.{SelectApplication, SelectMasterFile, SelectFile, ReadBinary, SelectPace, SelectPublicKey, VerifyCertificate, EncryptedNonce, MapNonce, PerformKeyAgreement, MutualAuthentication, ChangePin, UnblockPin, NoStep}
 use Rattle.eid_model.specs.Bodies.{data_in, authentication_data}
 use Rattle.eid_model.specs.Kinds.{kind_named}
 use Rattle.eid_model.specs.Runs.{Phase, Chose, SentNonce, HasBase, HasSecret, choice_in}
@@ -70,6 +75,8 @@ success_of SelectFile s = status_alone 0x9000
 success_of ReadBinary s =
     read_reply (drop (offset_meant s.command) (unwrap_or (bytes_of_file s.kept (file_meant s)) [])) s.command.ne
 success_of SelectPace s = select_reply s.kept.fields (choice_in s.command.body)
+success_of SelectPublicKey s = status_alone 0x9000
+success_of VerifyCertificate s = status_alone 0x9000
 success_of EncryptedNonce s = nonce_reply s.kept.fields s.state.phase s.answers
 success_of MapNonce s = point_reply 0x82 s.answers
 success_of PerformKeyAgreement s = point_reply 0x84 s.answers
@@ -141,6 +148,12 @@ agree_question peer (HasBase mapped) [] = Some (questions.Pair (Some mapped.base
 agree_question peer (HasBase mapped) (answers.Pair secret public ∷ []) = Some (questions.Agree secret peer)
 agree_question peer phase answers = None
 
+-- the signature of a certificate is verified, over the digest of the object 7F4E, with the signer's key
+abbrev pub verify_question : PlainRecord → PlainChain → Option PlainCertificate → List Answer → Option Question
+verify_question kept chain (Some certificate) [] =
+    option_map (λ signer. questions.Verify (key_of signer) (sha256 certificate.whole) certificate.signature) (signer_of kept chain certificate.body.issuer)
+verify_question kept chain certificate answers = None
+
 -- the question of a kind that follows these answers
 abbrev pub question_of : Option Kind → Situation → Option Question
 question_of None s = None
@@ -149,6 +162,8 @@ question_of (Some SelectMasterFile) s = None
 question_of (Some SelectFile) s = None
 question_of (Some ReadBinary) s = None
 question_of (Some SelectPace) s = None
+question_of (Some SelectPublicKey) s = None
+question_of (Some VerifyCertificate) s = verify_question s.kept.fields s.state.certificates (certificate_in s.command.body) s.answers
 question_of (Some EncryptedNonce) s = nonce_question s.state.phase s.answers
 question_of (Some MapNonce) s = map_question (data_in s.command.body) s.state.phase s.answers
 question_of (Some PerformKeyAgreement) s = agree_question (data_in s.command.body) s.state.phase s.answers

@@ -5,7 +5,7 @@ use Rattle.std.specs.List.{list_any}
 use Rattle.eid_apdu.specs.Command.{PlainCommand}
 use Rattle.eid_apdu.specs.Chaining.{is_fragment}
 use Rattle.eid_model.specs.declared.kind.Kind.{Kind}
-use Rattle.eid_model.specs.declared.kind.Kind.TheVariants.{SelectApplication, SelectMasterFile, SelectFile, ReadBinary, SelectPace, EncryptedNonce, MapNonce, PerformKeyAgreement, MutualAuthentication, ChangePin, UnblockPin, NoStep}
+use Rattle.eid_model.specs.declared.kind.Kind.TheVariants.{SelectApplication, SelectMasterFile, SelectFile, ReadBinary, SelectPace, SelectPublicKey, VerifyCertificate, EncryptedNonce, MapNonce, PerformKeyAgreement, MutualAuthentication, ChangePin, UnblockPin, NoStep}
 
 -- the kinds by number, in the order of the table
 abbrev pub number_of : Kind → ℕ
@@ -14,13 +14,15 @@ number_of SelectMasterFile = 1
 number_of SelectFile = 2
 number_of ReadBinary = 3
 number_of SelectPace = 4
-number_of EncryptedNonce = 5
-number_of MapNonce = 6
-number_of PerformKeyAgreement = 7
-number_of MutualAuthentication = 8
-number_of ChangePin = 9
-number_of UnblockPin = 10
-number_of NoStep = 11
+number_of SelectPublicKey = 5
+number_of VerifyCertificate = 6
+number_of EncryptedNonce = 7
+number_of MapNonce = 8
+number_of PerformKeyAgreement = 9
+number_of MutualAuthentication = 10
+number_of ChangePin = 11
+number_of UnblockPin = 12
+number_of NoStep = 13
 
 abbrev pub same_kind : Kind → Kind → Bool
 same_kind a b = number_of a == number_of b
@@ -57,14 +59,17 @@ kinds =
     record { kind = SelectFile; classes = 0x00 ∷ []; instruction = 0xA4; parameters = λ p. p == 0x020C; comes = in_any_run } ∷
     record { kind = ReadBinary; classes = 0x00 ∷ []; instruction = 0xB0; parameters = λ p. nat_lt p 0xA000; comes = in_any_run } ∷
     record { kind = SelectPace; classes = 0x00 ∷ 0x10 ∷ []; instruction = 0x22; parameters = λ p. p == 0xC1A4; comes = in_any_run } ∷
+    record { kind = SelectPublicKey; classes = 0x00 ∷ 0x10 ∷ []; instruction = 0x22; parameters = λ p. p == 0x81B6; comes = in_any_run } ∷
+    record { kind = VerifyCertificate; classes = 0x00 ∷ 0x10 ∷ []; instruction = 0x2A; parameters = λ p. p == 0x00BE; comes = in_turn VerifyCertificate } ∷
     record { kind = EncryptedNonce; classes = 0x10 ∷ []; instruction = 0x86; parameters = λ p. p == 0; comes = in_turn EncryptedNonce } ∷
     record { kind = MapNonce; classes = 0x10 ∷ []; instruction = 0x86; parameters = λ p. p == 0; comes = in_turn MapNonce } ∷
     record { kind = PerformKeyAgreement; classes = 0x10 ∷ []; instruction = 0x86; parameters = λ p. p == 0; comes = in_turn PerformKeyAgreement } ∷
     record { kind = MutualAuthentication; classes = 0x00 ∷ []; instruction = 0x86; parameters = λ p. p == 0; comes = in_turn MutualAuthentication } ∷
     record { kind = ChangePin; classes = 0x00 ∷ []; instruction = 0x2C; parameters = λ p. p == 0x0203; comes = in_any_run } ∷
     record { kind = UnblockPin; classes = 0x00 ∷ []; instruction = 0x2C; parameters = λ p. p == 0x0303; comes = in_any_run } ∷
-    -- a GENERAL AUTHENTICATE that the run has not come to
-    record { kind = NoStep; classes = 0x00 ∷ 0x10 ∷ []; instruction = 0x86; parameters = λ p. p == 0; comes = in_any_run } ∷ []
+    -- a GENERAL AUTHENTICATE or a PSO:Verify Certificate that the run has not come to
+    record { kind = NoStep; classes = 0x00 ∷ 0x10 ∷ []; instruction = 0x86; parameters = λ p. p == 0; comes = in_any_run } ∷
+    record { kind = NoStep; classes = 0x00 ∷ []; instruction = 0x2A; parameters = λ p. p == 0x00BE; comes = in_any_run } ∷ []
 
 -- the row has the command's class and instruction
 abbrev pub has_instruction : PlainCommand → KindRow → Bool
@@ -78,6 +83,14 @@ has_parameters c row = has_instruction c row && row.parameters (p1p2 c)
 abbrev pub kind_in_table : Option Kind → PlainCommand → Option Kind
 kind_in_table next c = option_map (λ row. row.kind) (find (λ row. has_parameters c row && row.comes next) kinds)
 
+-- the row is of this kind, and has the command's instruction and parameters
+abbrev pub is_for : Kind → PlainCommand → KindRow → Bool
+is_for kind c row = same_kind row.kind kind && row.instruction == c.ins && row.parameters (p1p2 c)
+
+-- the command has the instruction and the parameters of this kind
+abbrev pub has_form_of : Kind → PlainCommand → Bool
+has_form_of kind c = list_any (is_for kind c) kinds
+
 -- a fragment has none: it is the closing command that makes the request one of a kind
 abbrev pub kind_named : Option Kind → PlainCommand → Option Kind
 kind_named next c = if is_fragment c then None else kind_in_table next c
@@ -89,6 +102,8 @@ step_after SelectMasterFile = None
 step_after SelectFile = None
 step_after ReadBinary = None
 step_after SelectPace = Some EncryptedNonce
+step_after SelectPublicKey = Some VerifyCertificate
+step_after VerifyCertificate = None
 step_after EncryptedNonce = Some MapNonce
 step_after MapNonce = Some PerformKeyAgreement
 step_after PerformKeyAgreement = Some MutualAuthentication
@@ -104,6 +119,8 @@ begins_run SelectMasterFile = false
 begins_run SelectFile = false
 begins_run ReadBinary = false
 begins_run SelectPace = true
+begins_run SelectPublicKey = true
+begins_run VerifyCertificate = false
 begins_run EncryptedNonce = false
 begins_run MapNonce = false
 begins_run PerformKeyAgreement = false
@@ -118,6 +135,8 @@ goes_on_in_run SelectMasterFile = false
 goes_on_in_run SelectFile = false
 goes_on_in_run ReadBinary = false
 goes_on_in_run SelectPace = false
+goes_on_in_run SelectPublicKey = false
+goes_on_in_run VerifyCertificate = true
 goes_on_in_run EncryptedNonce = true
 goes_on_in_run MapNonce = true
 goes_on_in_run PerformKeyAgreement = true

@@ -9,7 +9,7 @@ use Rattle.eid_model.specs.declared.kind.Kind.TheVariants.{MutualAuthentication}
 use Rattle.eid_model.specs.Kinds.{same_kind, kind_named}
 use Rattle.eid_model.specs.Moments.{PlainMoment, live}
 use Rattle.eid_model.specs.Chains.{request_of}
-use Rattle.eid_model.specs.Runs.{run, next, Phase, Idle, Chose, SentNonce, HasBase, HasSecret, phase}
+use Rattle.eid_model.specs.Runs.{run, next, Phase, Idle, Chose, SentNonce, HasBase, HasSecret, ChoseKey, phase}
 use Rattle.eid_model.specs.Rules.{proves_pin}
 
 -- the kind of the request that ended with the newest moment, whether it was carried out or not
@@ -58,3 +58,4 @@ goes_on_with_pin (Chose choice) = false
 goes_on_with_pin (SentNonce sent) = is_pin sent.choice.password
 goes_on_with_pin (HasBase mapped) = is_pin mapped.choice.password
 goes_on_with_pin (HasSecret agreed) = is_pin agreed.choice.password
+goes_on_with_pin (ChoseKey name) = false

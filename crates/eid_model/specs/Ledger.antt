@@ -1,13 +1,13 @@
 -- The ledger: which effects were committed, and the record that is kept because of them. Everything is found by looking
--- back over the moments and over the ledger. This project's own.
+-- back over the moments and over the ledger; and the certificates accepted, with it. This project's own.
 use Rattle.std.specs.Prelude.{◌≡◌, ◌⊎◌, ℕ, ◌+◌, ◌-◌, Bool, ◌==◌, ◌&&◌, nat_le, nat_lt, List, [], ◌∷◌, length, take, drop, slice_index, Option, Some, None, is_some, if◌then◌else◌}
 use Rattle.eid_apdu.specs.Command.{PlainCommand}
-use Rattle.eid_bits.specs.Date.{number_of}
 use Rattle.eid_record.specs.Plain.{FullRecord, PlainTrustPoint, PlainEffect, Spend, Refill, Unblock, SetPin, SetCan, Active, Advance, Write}
 use Rattle.eid_record.specs.Effect.{committed}
-use Rattle.eid_model.specs.Moments.{Event, PoweredOn, PoweredOff, Received, PlainMoment, on}
+use Rattle.eid_trust.specs.Trust.{later_date}
+use Rattle.eid_model.specs.Moments.{Event, PoweredOn, PoweredOff, Received, PlainMoment, on, live}
 use Rattle.eid_model.specs.Runs.{answers_of}
-use Rattle.eid_model.specs.Sessions.{state_of}
+use Rattle.eid_model.specs.Sessions.{State, Accepted, accepted_more, state_in}
 use Rattle.eid_model.specs.Rules.{OfCommand}
 use Rattle.eid_model.specs.Answers.{situation, due}
 
@@ -70,10 +70,6 @@ active_after opening (SetCan can ∷ before) = active_after opening before
 active_after opening (Active active ∷ before) = active
 active_after opening (Advance date current previous ∷ before) = active_after opening before
 active_after opening (Write file offset bytes ∷ before) = active_after opening before
-
--- of two dates the later one
-abbrev pub later_date : List ℕ → List ℕ → List ℕ
-later_date a b = if nat_lt (number_of a) (number_of b) then b else a
 
 -- the latest of the opening date and the dates that were advanced to
 abbrev pub date_after : List ℕ → List PlainEffect → List ℕ
@@ -168,10 +164,10 @@ abbrev pub first_of : List PlainEffect → Option PlainEffect
 first_of [] = None
 first_of (effect ∷ later) = Some effect
 
--- the effects that were due at a command, in the record kept before it
-abbrev pub due_at : FullRecord → FullRecord → List PlainMoment → Option PlainCommand → PlainMoment → List PlainEffect
-due_at kept opening before None m = []
-due_at kept opening before (Some c) m = due (situation kept (state_of opening before) (OfCommand c) (answers_of m.asks))
+-- the effects that were due at a command, in the record kept and the state before it
+abbrev pub due_at : FullRecord → State → Option PlainCommand → PlainMoment → List PlainEffect
+due_at kept state None m = []
+due_at kept state (Some c) m = due (situation kept state (OfCommand c) (answers_of m.asks))
 
 -- a power-on that found this number: one more than what was kept tells that what was pending was committed
 abbrev pub books_found : ℕ → ℕ → Books → Books
@@ -187,17 +183,40 @@ books_handled due_now m books = record {
   pending = if is_some m.answer then None else first_of (drop m.finished due_now);
 }
 
--- the books after one more moment, by what came
-abbrev pub books_more : FullRecord → List PlainMoment → PlainMoment → Event → Books → Books
-books_more opening before m (PoweredOn None) books = books
-books_more opening before m (PoweredOn (Some found)) books = books_found found (record_after opening books.ledger).fields.number books
-books_more opening before m PoweredOff books = books
-books_more opening before m (Received bytes) books =
-    if on before then books_handled (due_at (record_after opening books.ledger) opening before m.plain m) m books else books
+-- the books after one more moment, by what came, where power stood so, in the state before it
+abbrev pub books_more : FullRecord → (power : Bool) → State → PlainMoment → Event → Books → Books
+books_more opening power state m (PoweredOn None) books = books
+books_more opening power state m (PoweredOn (Some found)) books = books_found found (record_after opening books.ledger).fields.number books
+books_more opening power state m PoweredOff books = books
+books_more opening power state m (Received bytes) books =
+    if power then books_handled (due_at (record_after opening books.ledger) state m.plain m) m books else books
 
-unfoldable pub books : FullRecord → List PlainMoment → Books
-books opening [] = record { ledger = []; pending = None }
-books opening (m ∷ before) = books_more opening before m m.input (books opening before)
+-- The books, and the certificates that count, the newest first.
+pub record Account : Type 0 where
+  pub books : Books
+  pub accepted : List Accepted
+
+-- and after one more moment
+abbrev pub account_more : FullRecord → List PlainMoment → PlainMoment → Account → Account
+account_more opening before m account = record {
+  books = books_more opening (on before) (state_in account.accepted (live before)) m m.input account.books;
+  accepted = accepted_more (record_after opening account.books.ledger).fields m (live before) account.accepted;
+}
+
+unfoldable pub account : FullRecord → List PlainMoment → Account
+account opening [] = record { books = record { ledger = []; pending = None }; accepted = [] }
+account opening (m ∷ before) = account_more opening before m (account opening before)
+
+abbrev pub books : FullRecord → List PlainMoment → Books
+books opening moments = (account opening moments).books
+
+-- the certificates accepted since the last PACE of the session, the newest first
+abbrev pub accepted : FullRecord → List PlainMoment → List Accepted
+accepted opening moments = (account opening moments).accepted
+
+-- what the moments of a journal with this opening record leave
+abbrev pub state_of : FullRecord → List PlainMoment → State
+state_of opening moments = state_in (accepted opening moments) (live moments)
 
 abbrev pub ledger : FullRecord → List PlainMoment → List PlainEffect
 ledger opening moments = (books opening moments).ledger

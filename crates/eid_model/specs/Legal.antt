@@ -13,10 +13,10 @@ use Rattle.eid_sm.specs.Commands.{IsProtected, LacksObjects}
 use Rattle.eid_sm.specs.Replies.{sealed}
 use Rattle.eid_model.specs.Moments.{Event, PoweredOn, PoweredOff, Received, PlainMoment, on, live, script, asked, AreSteady}
 use Rattle.eid_model.specs.Runs.{answers_of}
-use Rattle.eid_model.specs.Sessions.{state_of, channel}
+use Rattle.eid_model.specs.Sessions.{channel}
 use Rattle.eid_model.specs.Rules.{Incoming, NoCommand, MissingObjects, WrongObjects, OfCommand, plain_of, Situation}
 use Rattle.eid_model.specs.Answers.{Outcome, outcome, situation, question, due}
-use Rattle.eid_model.specs.Ledger.{kept, pending, MayFind}
+use Rattle.eid_model.specs.Ledger.{kept, pending, state_of, MayFind}
 
 -- the longest body of one command
 abbrev pub MAX_BODY : ℕ

@@ -8,11 +8,16 @@ use Rattle.eid_apdu.specs.Command.{PlainCommand}
 use Rattle.eid_apdu.specs.Chaining.{MAX_REQUEST}
 use Rattle.eid_record.specs.Plain.{FullRecord, PlainRecord, PlainEffect, Spend, Refill, SetPin, Unblock}
 use Rattle.eid_record.specs.Effect.{applied}
+use Rattle.eid_bits.specs.Rights.{role_of}
+use Rattle.eid_cvc.specs.Certificates.{PlainBody, PlainCertificate}
+use Rattle.eid_cvc.specs.CertificateIn.{certificate_in}
+use Rattle.eid_cvc.specs.Chains.{PlainChain}
+use Rattle.eid_trust.specs.Trust.{selected_rule, role_rule, link_rule, expiry_rule, signer_of, is_issued_by, may_sign, is_link, is_of_current, is_in_date, advance}
 use Rattle.eid_record.specs.Reading.{is_ascii_digit}
 use Rattle.eid_record.specs.declared.fields.Password.{Password}
 use Rattle.eid_password.specs.Passwords.{is_can, is_pin, is_puk, has_try, is_resumed, active_rule, try_rule, resumed_rule}
 use Rattle.eid_model.specs.declared.kind.Kind.{Kind}
-use Rattle.eid_model.specs.declared.kind.Kind.TheVariants.{SelectApplication, SelectMasterFile, SelectFile, ReadBinary, SelectPace, EncryptedNonce, MapNonce, PerformKeyAgreement, MutualAuthentication, ChangePin, UnblockPin, NoStep}
+use Rattle.eid_model.specs.declared.kind.Kind.TheVariants.{SelectApplication, SelectMasterFile, SelectFile, ReadBinary, SelectPace, SelectPublicKey, VerifyCertificate, EncryptedNonce, MapNonce, PerformKeyAgreement, MutualAuthentication, ChangePin, UnblockPin, NoStep}
 use Rattle.eid_model.specs.Kinds.{same_kind, kinds, has_instruction, has_parameters, is_by_short, file_of_short, file_of_id, card_access, card_security, application_id}
 use Rattle.eid_copro.specs.declared.ask.Answer.{Answer}
 use Rattle.eid_copro.specs.declared.ask.Answer.TheVariants as answers
@@ -20,8 +25,8 @@ use Rattle.eid_copro.specs.Asking.{is_fault}
 use Rattle.eid_pace.specs.Check.{terminal_token}
 use Rattle.eid_pace.specs.Selections.{PlainSelection, password_named}
 use Rattle.eid_pace.specs.SelectionIn.{selection_in}
-use Rattle.eid_model.specs.Bodies.{no_data, data_in, holds_value, holds_point}
-use Rattle.eid_model.specs.Runs.{Phase, Idle, Chose, SentNonce, HasBase, HasSecret}
+use Rattle.eid_model.specs.Bodies.{no_data, data_in, holds_value, holds_point, key_name_in}
+use Rattle.eid_model.specs.Runs.{Phase, Idle, Chose, SentNonce, HasBase, HasSecret, ChoseKey}
 use Rattle.eid_model.specs.Sessions.{State, PaceMemory, number_of_two}
 
 -- what the bytes received say: no command with a body of at most 2,200 bytes; in a channel, that the objects of
@@ -79,6 +84,8 @@ is_formed (Some SelectMasterFile) body = length body == 0 || bytes_eq body (0x3F
 is_formed (Some SelectFile) body = length body == 2
 is_formed (Some ReadBinary) body = length body == 0
 is_formed (Some SelectPace) body = is_some (selection_in body)
+is_formed (Some SelectPublicKey) body = is_some (key_name_in body)
+is_formed (Some VerifyCertificate) body = is_some (certificate_in body)
 is_formed (Some EncryptedNonce) body = bytes_eq body no_data
 is_formed (Some MapNonce) body = holds_point 0x81 body
 is_formed (Some PerformKeyAgreement) body = holds_point 0x83 body
@@ -103,6 +110,8 @@ is_named (Some SelectMasterFile) s = true
 is_named (Some SelectFile) s = is_some (file_of_id (number_of_two s.command.body))
 is_named (Some ReadBinary) s = not (is_by_short s.command) || is_some (file_meant s)
 is_named (Some SelectPace) s = true
+is_named (Some SelectPublicKey) s = true
+is_named (Some VerifyCertificate) s = true
 is_named (Some EncryptedNonce) s = true
 is_named (Some MapNonce) s = true
 is_named (Some PerformKeyAgreement) s = true
@@ -148,6 +157,7 @@ starts_pin (Chose choice) = is_pin choice.password
 starts_pin (SentNonce sent) = false
 starts_pin (HasBase mapped) = false
 starts_pin (HasSecret agreed) = false
+starts_pin (ChoseKey name) = false
 
 -- a PACE with the PIN has come to its tokens
 abbrev pub proves_pin : Phase → Bool
@@ -156,11 +166,17 @@ proves_pin (Chose choice) = false
 proves_pin (SentNonce sent) = false
 proves_pin (HasBase mapped) = false
 proves_pin (HasSecret agreed) = is_pin agreed.choice.password
+proves_pin (ChoseKey name) = false
 
 -- the session's last PACE was with such a password
 abbrev pub was_with : (Password → Bool) → Option PaceMemory → Bool
 was_with is_such None = false
 was_with is_such (Some pace) = is_such pace.password
+
+-- and the holder gave a template in it
+abbrev pub had_template : Option PaceMemory → Bool
+had_template None = false
+had_template (Some pace) = is_some pace.template
 
 -- the command reads EF.CardAccess, for which no PACE is needed
 abbrev pub reads_card_access : Option Kind → Option ℕ → Bool
@@ -170,6 +186,8 @@ reads_card_access (Some SelectMasterFile) file = false
 reads_card_access (Some SelectFile) file = false
 reads_card_access (Some ReadBinary) file = is_card_access file
 reads_card_access (Some SelectPace) file = false
+reads_card_access (Some SelectPublicKey) file = false
+reads_card_access (Some VerifyCertificate) file = false
 reads_card_access (Some EncryptedNonce) file = false
 reads_card_access (Some MapNonce) file = false
 reads_card_access (Some PerformKeyAgreement) file = false
@@ -186,6 +204,8 @@ may_manage (Some SelectMasterFile) pace = false
 may_manage (Some SelectFile) pace = false
 may_manage (Some ReadBinary) pace = false
 may_manage (Some SelectPace) pace = false
+may_manage (Some SelectPublicKey) pace = false
+may_manage (Some VerifyCertificate) pace = false
 may_manage (Some EncryptedNonce) pace = false
 may_manage (Some MapNonce) pace = false
 may_manage (Some PerformKeyAgreement) pace = false
@@ -209,7 +229,46 @@ abbrev pub is_token : List ℕ → Phase → Bool
 is_token sent (HasSecret agreed) = bytes_eq sent (terminal_token agreed)
 is_token sent phase = false
 
+-- ---- certificates
+
+-- the name is that of a trust point, or of the document verifier accepted last
+abbrev pub is_key_known : PlainRecord → PlainChain → Option (List ℕ) → Bool
+is_key_known kept chain None = false
+is_key_known kept chain (Some name) = is_some (signer_of kept chain name)
+
+-- the name under which the next certificate is to be verified
+abbrev pub name_chosen : Phase → List ℕ
+name_chosen Idle = []
+name_chosen (Chose choice) = []
+name_chosen (SentNonce sent) = []
+name_chosen (HasBase mapped) = []
+name_chosen (HasSecret agreed) = []
+name_chosen (ChoseKey name) = name
+
+-- the certificate, where there is one, says this
+abbrev pub says : (PlainBody → Bool) → Option PlainCertificate → Bool
+says it None = true
+says it (Some certificate) = it certificate.body
+
+-- the signer may sign it
+abbrev pub is_by_signer : PlainRecord → PlainChain → PlainBody → Bool
+is_by_signer kept chain c = may_sign (signer_of kept chain c.issuer) (role_of c.template)
+
+-- the answer is that a signature is wrong
+abbrev pub is_wrong : Answer → Bool
+is_wrong (answers.Verdict right) = not right
+is_wrong answer = false
+
 -- ---- what a command commits
+
+-- what an accepted certificate advances
+abbrev pub one_effect : Option PlainEffect → List PlainEffect
+one_effect None = []
+one_effect (Some effect) = effect ∷ []
+
+abbrev pub to_advance : PlainRecord → PlainChain → Option PlainCertificate → List PlainEffect
+to_advance kept chain None = []
+to_advance kept chain (Some certificate) = one_effect (advance kept chain certificate.body)
 
 -- the last step of PACE with the PIN takes a try before the token is compared, and gives all tries back where it is right
 abbrev pub token_effects : (pin right : Bool) → List PlainEffect
@@ -224,6 +283,8 @@ to_commit (Some SelectMasterFile) s = []
 to_commit (Some SelectFile) s = []
 to_commit (Some ReadBinary) s = []
 to_commit (Some SelectPace) s = []
+to_commit (Some SelectPublicKey) s = []
+to_commit (Some VerifyCertificate) s = to_advance s.kept.fields s.state.certificates (certificate_in s.command.body)
 to_commit (Some EncryptedNonce) s = []
 to_commit (Some MapNonce) s = []
 to_commit (Some PerformKeyAgreement) s = []
@@ -239,7 +300,7 @@ are_none (effect ∷ later) = false
 
 -- the kinds that may commit something
 abbrev pub committing : List Kind
-committing = MutualAuthentication ∷ ChangePin ∷ UnblockPin ∷ []
+committing = VerifyCertificate ∷ MutualAuthentication ∷ ChangePin ∷ UnblockPin ∷ []
 
 -- the greatest commit number after which commits are due: the last step of PACE may make two more
 abbrev pub LAST_NUMBER : ℕ
@@ -307,8 +368,17 @@ kind_rules =
     record {
       number = 20;
       status = fixed 0x6982;
-      kinds = ReadBinary ∷ ChangePin ∷ UnblockPin ∷ [];
+      kinds = ReadBinary ∷ SelectPublicKey ∷ ChangePin ∷ UnblockPin ∷ [];
       holds = λ s. reads_card_access s.kind (file_meant s) || is_some s.state.pace;
+    } ∷
+    -- in that PACE the holder gave a template
+    record { number = 21; status = fixed 0x6985; kinds = SelectPublicKey ∷ []; holds = λ s. had_template s.state.pace } ∷
+    -- the name is that of a trust point, or of the document verifier accepted last
+    record {
+      number = 23;
+      status = fixed 0x6A88;
+      kinds = SelectPublicKey ∷ [];
+      holds = λ s. is_key_known s.kept.fields s.state.certificates (key_name_in s.command.body);
     } ∷
     -- for a data group: terminal authentication succeeded. No kind of this stage can have brought one.
     record { number = 26; status = fixed 0x6982; kinds = ReadBinary ∷ []; holds = λ s. not (is_data_group (file_meant s)) } ∷
@@ -329,6 +399,34 @@ kind_rules =
       status = fixed 0x6B00;
       kinds = ReadBinary ∷ [];
       holds = λ s. nat_le (offset_meant s.command) (length (unwrap_or (bytes_of_file s.kept (file_meant s)) []));
+    } ∷
+    -- the certificate is issued under the name that was selected
+    record {
+      number = selected_rule;
+      status = fixed 0x6300;
+      kinds = VerifyCertificate ∷ [];
+      holds = λ s. says (is_issued_by (name_chosen s.state.phase)) (certificate_in s.command.body);
+    } ∷
+    -- a trust point signs a link or a document verifier, a document verifier signs a terminal
+    record {
+      number = role_rule;
+      status = fixed 0x6300;
+      kinds = VerifyCertificate ∷ [];
+      holds = λ s. says (is_by_signer s.kept.fields s.state.certificates) (certificate_in s.command.body);
+    } ∷
+    -- a link is signed by the current trust point, or is the current trust point's own
+    record {
+      number = link_rule;
+      status = fixed 0x6300;
+      kinds = VerifyCertificate ∷ [];
+      holds = λ s. says (λ c. not (is_link c) || is_of_current s.kept.fields c) (certificate_in s.command.body);
+    } ∷
+    -- what is no link has not expired
+    record {
+      number = expiry_rule;
+      status = fixed 0x6300;
+      kinds = VerifyCertificate ∷ [];
+      holds = λ s. says (λ c. is_link c || is_in_date s.kept.fields c) (certificate_in s.command.body);
     } ∷ []
 
 -- whether the coprocessor's answers let the command go on
@@ -339,7 +437,9 @@ answer_rules =
     -- the terminal's ephemeral point differs from the chip's
     record { number = 51; status = fixed 0x6300; kinds = PerformKeyAgreement ∷ []; holds = λ s. not (is_own_point (data_in s.command.body) s.answers) } ∷
     -- no question was answered with no point
-    record { number = 52; status = fixed 0x6A80; kinds = MapNonce ∷ PerformKeyAgreement ∷ []; holds = λ s. not (list_any is_no_point s.answers) } ∷ []
+    record { number = 52; status = fixed 0x6A80; kinds = MapNonce ∷ PerformKeyAgreement ∷ []; holds = λ s. not (list_any is_no_point s.answers) } ∷
+    -- the signature was not found wrong
+    record { number = 53; status = fixed 0x6300; kinds = VerifyCertificate ∷ []; holds = λ s. not (list_any is_wrong s.answers) } ∷ []
 
 -- whether there is room for what is to be committed
 abbrev pub commit_rules : List RuleRow

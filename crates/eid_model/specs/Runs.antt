@@ -1,6 +1,6 @@
 -- Runs: a selection and the steps that follow it, each directly behind the one before (BSI TR-03110-3). A run is a
 -- list of steps with the newest first.
-use Rattle.std.specs.Prelude.{ℕ, List, [], ◌∷◌, map, Option, Some, None, option_and_then, if◌then◌else◌}
+use Rattle.std.specs.Prelude.{ℕ, Bool, false, List, [], ◌∷◌, map, Option, Some, None, option_and_then, if◌then◌else◌}
 use Rattle.eid_apdu.specs.Command.{PlainCommand}
 use Rattle.eid_copro.specs.declared.ask.Ask.{Ask}
 use Rattle.eid_copro.specs.declared.ask.Answer.{Answer}
@@ -10,11 +10,11 @@ use Rattle.eid_pace.specs.Selections.{chosen_by}
 use Rattle.eid_pace.specs.SelectionIn.{selection_in}
 use Rattle.std.specs.Result.{result_ok}
 use Rattle.eid_model.specs.declared.kind.Kind.{Kind}
-use Rattle.eid_model.specs.declared.kind.Kind.TheVariants.{SelectApplication, SelectMasterFile, SelectFile, ReadBinary, SelectPace, EncryptedNonce, MapNonce, PerformKeyAgreement, MutualAuthentication, ChangePin, UnblockPin, NoStep}
-use Rattle.eid_model.specs.Kinds.{kind_named, step_after, begins_run, goes_on_in_run}
+use Rattle.eid_model.specs.declared.kind.Kind.TheVariants.{SelectApplication, SelectMasterFile, SelectFile, ReadBinary, SelectPace, SelectPublicKey, VerifyCertificate, EncryptedNonce, MapNonce, PerformKeyAgreement, MutualAuthentication, ChangePin, UnblockPin, NoStep}
+use Rattle.eid_model.specs.Kinds.{kind_named, has_form_of, step_after, begins_run, goes_on_in_run}
 use Rattle.eid_model.specs.Moments.{PlainMoment, succeeded}
-use Rattle.eid_model.specs.Chains.{request_of}
-use Rattle.eid_model.specs.Bodies.{data_in}
+use Rattle.eid_model.specs.Chains.{fragment, request_of}
+use Rattle.eid_model.specs.Bodies.{data_in, key_name_in}
 
 abbrev pub answers_of : List Ask → List Answer
 answers_of asks = map (λ (ask : Ask). ask.answer) asks
@@ -43,10 +43,18 @@ continued (Some kind) (Some c) answers run =
     else if goes_on_in_run kind then record { kind = kind; command = c; answers = answers } ∷ run
     else []
 
--- The run. A fragment ends it, because no step that can come next is sent in fragments.
+-- a fragment of the request that comes next in the run
+abbrev pub is_piece_of_next : Option Kind → Option PlainCommand → Bool
+is_piece_of_next None piece = false
+is_piece_of_next (Some kind) None = false
+is_piece_of_next (Some kind) (Some c) = has_form_of kind c
+
+-- The run. Fragments of the step that comes next leave it as it is.
 abbrev pub run : List PlainMoment → List Step
 run [] = []
-run (m ∷ before) = continued (kind_done (next (run before)) m before) (request_of m before) (answers_of m.asks) (run before)
+run (m ∷ before) =
+    if is_piece_of_next (next (run before)) (fragment m) then run before
+    else continued (kind_done (next (run before)) m before) (request_of m before) (answers_of m.asks) (run before)
 
 -- What later steps need of a run.
 pub data Phase : Type 0 where
@@ -60,10 +68,16 @@ pub data Phase : Type 0 where
   HasBase : PlainMapped → Phase
   -- the ephemeral points gave a secret
   HasSecret : PlainAgreed → Phase
+  -- the public key with this name is to verify the next certificate
+  ChoseKey : List ℕ → Phase
 
 abbrev pub as_chosen : Option PlainChoice → Phase
 as_chosen None = Idle
 as_chosen (Some choice) = Chose choice
+
+abbrev pub as_named : Option (List ℕ) → Phase
+as_named None = Idle
+as_named (Some name) = ChoseKey name
 
 -- what a selection chose
 abbrev pub choice_in : List ℕ → Option PlainChoice
@@ -89,6 +103,8 @@ entered SelectMasterFile c answers before = Idle
 entered SelectFile c answers before = Idle
 entered ReadBinary c answers before = Idle
 entered SelectPace c answers before = as_chosen (choice_in c.body)
+entered SelectPublicKey c answers before = as_named (key_name_in c.body)
+entered VerifyCertificate c answers before = Idle
 entered EncryptedNonce c answers before = with_nonce answers before
 entered MapNonce c answers before = with_base answers before
 entered PerformKeyAgreement c answers before = with_secret (data_in c.body) answers before

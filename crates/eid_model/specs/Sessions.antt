@@ -1,19 +1,24 @@
 -- What a session's moments leave, by looking back over them.
-use Rattle.std.specs.Prelude.{ℕ, ◌+◌, ◌*◌, ◌-◌, ◌%◌, ◌^◌, Bool, true, false, List, [], ◌∷◌, Option, Some, None, is_some, unwrap_or, option_map, option_and_then, if◌then◌else◌, slice_index}
+use Rattle.std.specs.Prelude.{ℕ, ◌+◌, ◌*◌, ◌-◌, ◌%◌, ◌^◌, Bool, true, false, not, List, [], ◌∷◌, Option, Some, None, is_some, unwrap_or, option_map, option_and_then, if◌then◌else◌, slice_index}
 use Rattle.std.specs.Option.{option_or}
 use Rattle.eid_apdu.specs.Command.{PlainCommand}
 use Rattle.eid_apdu.specs.Chaining.{OpenChain}
 use Rattle.eid_record.specs.declared.fields.Password.{Password}
 use Rattle.eid_pace.specs.States.{PlainDone}
 use Rattle.eid_pace.specs.Check.{done_by}
-use Rattle.eid_record.specs.Plain.{FullRecord}
+use Rattle.eid_record.specs.Plain.{PlainRecord}
+use Rattle.eid_bits.specs.Rights.{role_of}
+use Rattle.eid_cvc.specs.Certificates.{PlainBody}
+use Rattle.eid_cvc.specs.CertificateIn.{certificate_in}
+use Rattle.eid_cvc.specs.Chains.{PlainChain, no_chain}
+use Rattle.eid_trust.specs.Trust.{is_link, is_verifier_role, is_terminal_role, no_sectors, party_of, point_named}
 use Rattle.eid_sm.specs.Keys.{Keys, ChannelState}
 use Rattle.eid_model.specs.declared.kind.Kind.{Kind}
-use Rattle.eid_model.specs.declared.kind.Kind.TheVariants.{SelectApplication, SelectMasterFile, SelectFile, ReadBinary, SelectPace, EncryptedNonce, MapNonce, PerformKeyAgreement, MutualAuthentication, ChangePin, UnblockPin, NoStep}
+use Rattle.eid_model.specs.declared.kind.Kind.TheVariants.{SelectApplication, SelectMasterFile, SelectFile, ReadBinary, SelectPace, SelectPublicKey, VerifyCertificate, EncryptedNonce, MapNonce, PerformKeyAgreement, MutualAuthentication, ChangePin, UnblockPin, NoStep}
 use Rattle.eid_model.specs.Kinds.{is_by_short, file_of_short, file_of_id}
-use Rattle.eid_model.specs.Moments.{PlainMoment, live}
+use Rattle.eid_model.specs.Moments.{PlainMoment, ends_session}
 use Rattle.eid_model.specs.Chains.{chaining, request_of}
-use Rattle.eid_model.specs.Runs.{kind_done, run, next, Phase, Idle, Chose, SentNonce, HasBase, HasSecret, phase}
+use Rattle.eid_model.specs.Runs.{kind_done, run, next, Phase, Idle, Chose, SentNonce, HasBase, HasSecret, ChoseKey, phase}
 
 -- the kind that the newest moment carried out
 abbrev pub kind_of_moment : PlainMoment → List PlainMoment → Option Kind
@@ -26,6 +31,8 @@ selects SelectMasterFile = Some false
 selects SelectFile = None
 selects ReadBinary = None
 selects SelectPace = None
+selects SelectPublicKey = None
+selects VerifyCertificate = None
 selects EncryptedNonce = None
 selects MapNonce = None
 selects PerformKeyAgreement = None
@@ -45,6 +52,8 @@ names SelectMasterFile c = None
 names SelectFile c = file_of_id (number_of_two c.body)
 names ReadBinary c = if is_by_short c then file_of_short (c.p1 - 0x80) else None
 names SelectPace c = None
+names SelectPublicKey c = None
+names VerifyCertificate c = None
 names EncryptedNonce c = None
 names MapNonce c = None
 names PerformKeyAgreement c = None
@@ -77,6 +86,7 @@ done_with (Chose choice) = None
 done_with (SentNonce sent) = None
 done_with (HasBase mapped) = None
 done_with (HasSecret agreed) = Some (done_by agreed)
+done_with (ChoseKey name) = None
 
 -- the PACE that ends with this kind, where the run has come so far
 abbrev pub pace_done : Kind → Phase → Option PlainDone
@@ -85,6 +95,8 @@ pace_done SelectMasterFile phase = None
 pace_done SelectFile phase = None
 pace_done ReadBinary phase = None
 pace_done SelectPace phase = None
+pace_done SelectPublicKey phase = None
+pace_done VerifyCertificate phase = None
 pace_done EncryptedNonce phase = None
 pace_done MapNonce phase = None
 pace_done PerformKeyAgreement phase = None
@@ -132,6 +144,86 @@ channel_after commands keys = record { keys = keys; counter = 2 * commands % 2 ^
 abbrev pub channel : List PlainMoment → Option ChannelState
 channel session = option_map (channel_after (commands_since_opening session)) (channel_keys session)
 
+-- ---- the certificates accepted since the last PACE
+
+-- the certificate that a kind accepts where it is carried out
+abbrev pub accepts : Kind → PlainCommand → Option PlainBody
+accepts SelectApplication c = None
+accepts SelectMasterFile c = None
+accepts SelectFile c = None
+accepts ReadBinary c = None
+accepts SelectPace c = None
+accepts SelectPublicKey c = None
+accepts VerifyCertificate c = option_map (λ certificate. certificate.body) (certificate_in c.body)
+accepts EncryptedNonce c = None
+accepts MapNonce c = None
+accepts PerformKeyAgreement c = None
+accepts MutualAuthentication c = None
+accepts ChangePin c = None
+accepts UnblockPin c = None
+accepts NoStep c = None
+
+abbrev pub accepted_by : Option Kind → Option PlainCommand → Option PlainBody
+accepted_by kind request = option_and_then (λ k. option_and_then (accepts k) request) kind
+
+-- A certificate that was accepted: what it says, and the record kept before it.
+pub record Accepted : Type 0 where
+  pub kept : PlainRecord
+  pub certificate : PlainBody
+
+-- those accepted, the newest first, with one more or none
+abbrev pub accepted_with : PlainRecord → Option PlainBody → List Accepted → List Accepted
+accepted_with kept None before = before
+accepted_with kept (Some certificate) before = record { kept = kept; certificate = certificate } ∷ before
+
+-- and behind a command, which may have completed a PACE
+abbrev pub accepted_behind : PlainRecord → Option PlainDone → Option PlainBody → List Accepted → List Accepted
+accepted_behind kept None certificate before = accepted_with kept certificate before
+accepted_behind kept (Some done) certificate before = []
+
+-- those that count after the newest moment of a session, by the record kept before it
+abbrev pub accepted_more : PlainRecord → PlainMoment → List PlainMoment → List Accepted → List Accepted
+accepted_more kept m session before =
+    if ends_session m then []
+    else accepted_behind kept (pace_completed m session) (accepted_by (kind_of_moment m session) (request_of m session)) before
+
+-- the last of them of which this holds
+abbrev pub last_such : (PlainBody → Bool) → List Accepted → Option Accepted
+last_such is_such [] = None
+last_such is_such (a ∷ before) = if is_such a.certificate then Some a else last_such is_such before
+
+-- the last document verifier
+abbrev pub last_verifier : List Accepted → Option Accepted
+last_verifier accepted = last_such (λ c. is_verifier_role (role_of c.template)) accepted
+
+abbrev pub if_terminal : Option Accepted → Option PlainBody
+if_terminal None = None
+if_terminal (Some a) = if is_terminal_role (role_of a.certificate.template) then Some a.certificate else None
+
+-- the last certificate that is no link, where it is a terminal's
+abbrev pub last_terminal : List Accepted → Option PlainBody
+last_terminal accepted = if_terminal (last_such (λ c. not (is_link c)) accepted)
+
+-- the template of the trust point under which a certificate was accepted, as it stood then
+abbrev pub template_above : Accepted → Option (List ℕ)
+template_above a = option_map (λ point. point.template) (point_named a.kept a.certificate.issuer)
+
+abbrev pub sectors_of : Option PlainBody → List (Option (List ℕ))
+sectors_of None = no_sectors
+sectors_of (Some c) = c.sectors
+
+-- The chain: the last document verifier, the trust point above it, and the last terminal, where no document verifier came
+-- behind it.
+abbrev pub chain_left : List Accepted → PlainChain
+chain_left accepted = record {
+  root = option_and_then template_above (last_verifier accepted);
+  verifier = option_map (λ a. party_of a.certificate) (last_verifier accepted);
+  terminal = option_map party_of (last_terminal accepted);
+  sectors = sectors_of (last_terminal accepted);
+}
+
+-- ---- the state
+
 -- What is asked of the last PACE later.
 pub record PaceMemory : Type 0 where
   pub password : Password
@@ -153,29 +245,37 @@ pub record State : Type 0 where
   pub current : Option ℕ
   -- the last PACE
   pub pace : Option PaceMemory
+  -- what the certificates accepted since then leave
+  pub certificates : PlainChain
   -- the keys and the counter of secure messaging
   pub channel : Option ChannelState
   -- the chain of fragments that is open
   pub chaining : Option OpenChain
 
-abbrev pub state_in : List PlainMoment → State
-state_in session = record {
+abbrev pub state_in : List Accepted → List PlainMoment → State
+state_in accepted session = record {
   next = next (run session);
   phase = phase (run session);
   selected = selected session;
   current = current session;
   pace = option_map memory_of (pace session);
+  certificates = chain_left accepted;
   channel = channel session;
   chaining = chaining session;
 }
 
--- the state after these moments of a journal with this opening record
-abbrev pub state_of : FullRecord → List PlainMoment → State
-state_of opening moments = state_in (live moments)
-
 -- the state where a session begins
 abbrev pub fresh : State
-fresh = record { next = None; phase = Idle; selected = false; current = None; pace = None; channel = None; chaining = None }
+fresh = record {
+  next = None;
+  phase = Idle;
+  selected = false;
+  current = None;
+  pace = None;
+  certificates = no_chain;
+  channel = None;
+  chaining = None;
+}
 
 -- the state beside its chain of fragments: what a whole request finds
 abbrev pub unchained : State → State

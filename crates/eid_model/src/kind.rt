@@ -11,6 +11,10 @@ pub enum Kind {
     ReadBinary,
     /// MSE:Set AT for PACE: chooses the password.
     SelectPace,
+    /// MSE:Set DST: names the public key that verifies the next certificate.
+    SelectPublicKey,
+    /// PSO:Verify Certificate.
+    VerifyCertificate,
     /// The first GENERAL AUTHENTICATE of PACE: the encrypted nonce.
     EncryptedNonce,
     /// The second: the nonce is mapped to a base.
@@ -23,6 +27,6 @@ pub enum Kind {
     ChangePin,
     /// RESET RETRY COUNTER without one: the tries of the PIN are given back.
     UnblockPin,
-    /// A GENERAL AUTHENTICATE that is no step of a run.
+    /// A step that the run has not come to.
     NoStep,
 }

@@ -1,15 +1,16 @@
 //! Laws about every legal journal, and about forms.
-ghost use Rattle.std.specs.Prelude.{◌≡◌, ◌<◌, ◌≤◌, ◌↔◌, ℕ, List, ◌∷◌, ◌++◌, length, false, true};
+ghost use Rattle.std.specs.Prelude.{◌≡◌, ◌<◌, ◌≤◌, ◌↔◌, ℕ, List, ◌∷◌, ◌++◌, length, Some, false, true};
+ghost use Rattle.eid_bits.specs.Date.{number_of};
 ghost use Rattle.eid_record.specs.Plain.{FullRecord, PlainEffect, Spend};
 ghost use Rattle.eid_password.specs.Passwords.{ALL_TRIES};
 ghost use Rattle.eid_copro.specs.Told.{Source, AnswersFrom};
 ghost use Rattle.eid_model.specs.Moments.{PlainMoment, live, script, asked, leaves_no_session, AreSteady};
 ghost use Rattle.eid_model.specs.Runs.{run, phase};
-ghost use Rattle.eid_model.specs.Sessions.{state_of, fresh};
+ghost use Rattle.eid_model.specs.Sessions.{fresh};
 ghost use Rattle.eid_model.specs.Legal.{AreLegal};
-ghost use Rattle.eid_model.specs.Ledger.{ledger, kept};
+ghost use Rattle.eid_model.specs.Ledger.{ledger, kept, state_of};
 ghost use Rattle.eid_model.specs.Laws.{compares_pin, refused_pins, gives_back, goes_on_with_pin};
-ghost use Rattle.eid_model.specs.Bodies.{authentication_data, data_in, holds_value};
+ghost use Rattle.eid_model.specs.Bodies.{NamesKey, authentication_data, data_in, holds_value, key_name_in};
 
 /// There is one journal for an opening record, a script and a source of the coprocessor's answers, as
 /// long as the power stays steady: what came determines what was answered.
@@ -53,6 +54,17 @@ pub fn law_tries()
         → AreLegal opening (recent ++ before) → opening.fields.tries ≤ ALL_TRIES
         → ledger opening (recent ++ before) ≡ gained ++ ledger opening before → gives_back gained ≡ false
         → refused_pins recent before ≤ ALL_TRIES }
+{}
+
+/// The chip's date never falls: whatever comes later, power cuts too, the date kept is at least as late.
+pub fn law_date()
+    ensures { (opening : FullRecord) (later before : List PlainMoment)
+        → number_of (kept opening before).fields.date ≤ number_of (kept opening (later ++ before)).fields.date }
+{}
+
+/// The definition of the name in a body of MSE:Set DST, as a function, gives exactly that name.
+pub fn law_key_name()
+    ensures { (body name : List ℕ) → key_name_in body ≡ Some name ↔ NamesKey body name }
 {}
 
 /// Reading a body of GENERAL AUTHENTICATE is the converse of writing it: it holds a value of this size under the

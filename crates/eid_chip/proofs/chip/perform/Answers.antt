@@ -3,7 +3,7 @@ use Rattle.std.proofs.Common.{refl, ap, sym, ◌∙◌}
 use Rattle.eid_apdu.specs.Command.{plain_command}
 use Rattle.eid_apdu.specs.Answer.{plain_reply}
 use Rattle.eid_base.specs.declared.codes.Rule.{Rule}
-use Rattle.eid_model.specs.declared.kind.Kind.TheVariants.{SelectApplication, SelectMasterFile, SelectFile, ReadBinary, SelectPace, EncryptedNonce, MapNonce, PerformKeyAgreement, NoStep}
+use Rattle.eid_model.specs.declared.kind.Kind.TheVariants.{SelectApplication, SelectMasterFile, SelectFile, ReadBinary, SelectPace, SelectPublicKey, EncryptedNonce, MapNonce, PerformKeyAgreement, NoStep}
 use Rattle.eid_chip.specs.Held.{held}
 use Rattle.eid_chip.specs.States.{state}
 use Rattle.eid_chip.proofs.HeldFiles.{held_fields}
@@ -46,6 +46,14 @@ returns-in-SelectPace-clause-performed g c =
     let fields = held_fields c.args.store.now (g.E.Eeprom.device c.args.cells.now) cells c.requires.mounted ∙ sym c.kept.ensures in
     settled _ SelectPace c.args.session command c.uncommitted-in-SelectPace.result c.select_pace.result (plain_reply c.select_pace.new.reply) (g.C.Coprocessor.seen c.args.copro.now) (g.C.Coprocessor.seen c.args.copro.now) c.args.store.now (g.E.Eeprom.device c.args.cells.now) cells
     c.in-SelectPace.is (λ s. refl) c.requires.mounted c.uncommitted-in-SelectPace.ensures (unasked (g.C.Coprocessor.seen c.args.copro.now) SelectPace (held cells) c.args.session command _ _ (λ channel. c.select_pace.ensures.told (held cells) channel fields))
+
+pub returns-in-SelectPublicKey-clause-performed : goal.returns-in-SelectPublicKey-clause-performed
+returns-in-SelectPublicKey-clause-performed g c =
+    let cells = g.E.Eeprom.cells c.args.cells.now in
+    let command = plain_command c.args.c.now in
+    let fields = held_fields c.args.store.now (g.E.Eeprom.device c.args.cells.now) cells c.requires.mounted ∙ sym c.kept-in-SelectPublicKey.ensures in
+    settled _ SelectPublicKey c.args.session command c.uncommitted-in-SelectPublicKey.result c.select_public_key.result (plain_reply c.select_public_key.new.reply) (g.C.Coprocessor.seen c.args.copro.now) (g.C.Coprocessor.seen c.args.copro.now) c.args.store.now (g.E.Eeprom.device c.args.cells.now) cells
+    c.in-SelectPublicKey.is (λ s. refl) c.requires.mounted c.uncommitted-in-SelectPublicKey.ensures (unasked (g.C.Coprocessor.seen c.args.copro.now) SelectPublicKey (held cells) c.args.session command _ _ (λ channel. c.select_public_key.ensures.told (held cells) channel fields))
 
 pub returns-in-EncryptedNonce-clause-performed : goal.returns-in-EncryptedNonce-clause-performed
 returns-in-EncryptedNonce-clause-performed g c =

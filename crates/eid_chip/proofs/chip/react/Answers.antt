@@ -1,4 +1,4 @@
--- A command whose class, instruction or parameters are refused.
+-- A fragment, and a command whose class, instruction or parameters are refused.
 use Rattle.std.proofs.Common.{ap, []}
 use Rattle.eid_base.specs.declared.codes.Rule.{Rule}
 use Rattle.eid_apdu.specs.Command.{plain_command}
@@ -22,3 +22,7 @@ returns-in-Err-clause-reacts g c =
     name_refused kept (chained fragments (state c.args.session channel)) command (refusal c.in-Err.refusal) c.refused.result (plain_reply c.refused.new.reply)
     (not_named.refused kept (chained fragments (state c.args.session channel)) []) not_named.lasting.0
     (ap (λ (r : Rule). r.0) c.refused.ensures.rule) c.refused.ensures.reply (c.refused.ensures.left channel))
+
+pub returns-in-Ok-Fragment-clause-reacts : goal.returns-in-Ok-Fragment-clause-reacts
+returns-in-Ok-Fragment-clause-reacts g c =
+    c.take_fragment.ensures.reacts (g.C.Coprocessor.seen c.args.copro.now) c.args.store.now (g.E.Eeprom.device c.args.cells.now) (g.E.Eeprom.cells c.args.cells.now) c.requires.mounted

@@ -3,7 +3,7 @@ use Rattle.std.proofs.Common.{ap, refl, []}
 use Rattle.eid_base.specs.declared.codes.Rule.{Rule}
 use Rattle.eid_apdu.specs.Command.{plain_command}
 use Rattle.eid_apdu.specs.Answer.{plain_reply}
-use Rattle.eid_chip.proofs.Outcomes.{broken_request, fragment_taken, idle_left, long_request, request_reacts}
+use Rattle.eid_chip.proofs.Outcomes.{broken_request, fragment_taken, piece_left, long_request, request_reacts}
 use Rattle.eid_chip.proofs.chip.take_fragment.Goals as goal
 
 pub returns-in-More-clause-reacts : goal.returns-in-More-clause-reacts
@@ -11,7 +11,7 @@ returns-in-More-clause-reacts c = λ copro store device cells fits.
     let did = c.carried_out.ensures.did in
     fragment_taken c.args.session c.args.chain.now.pending (plain_command c.args.c.now) c.uncommitted.result c.carried_out.result (plain_reply c.carried_out.new.reply) c.feed.new.self.pending copro store device cells
     fits c.uncommitted.ensures c.in-More.ensures.says c.requires.passes did.0 did.1 c.in-More.ensures.pending
-    (λ channel. idle_left c.args.session c.without_run.result c.carried_out.result channel did.0 did.3 did.2 c.without_run.ensures)
+    (λ channel. piece_left c.args.session c.after_fragment.result (plain_command c.args.c.now) c.carried_out.result channel did.0 did.3 did.2 c.after_fragment.ensures)
 
 pub returns-in-Broken-clause-reacts : goal.returns-in-Broken-clause-reacts
 returns-in-Broken-clause-reacts c = λ copro store device cells fits.

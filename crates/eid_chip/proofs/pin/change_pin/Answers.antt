@@ -55,7 +55,7 @@ returns-clause-performed g c = λ copro.
     record {
       asks = [];
       were_asked = not_asked copro;
-      ended = λ channel. c.commit_one.ensures.ended copro channel ChangePin command
+      ended = λ channel. c.commit_one.ensures.ended copro copro channel ChangePin command []
           (changes (held cells) (state c.args.session channel) command c.in-Some.pin c.in-Some.ensures.found.2 (some_pace pace password c.in-Some-last_password.ensures) by_pin c.in-Some.ensures.found.0);
       layout = c.commit_one.ensures.layout;
     }

@@ -71,7 +71,7 @@ returns-clause-performed g c = λ copro.
     record {
       asks = [];
       were_asked = not_asked copro;
-      ended = λ channel. c.commit_one.ensures.ended copro channel UnblockPin command
+      ended = λ channel. c.commit_one.ensures.ended copro copro channel UnblockPin command []
           (unblocks (held cells) (state c.args.session channel) command (sym c.if-not-is_empty.ensures) (some_pace pace password c.in-Some.ensures) by_puk (some_left (held cells).fields.unblocks (λ none. c.if-kept-eq0.false (sym left ∙ none))));
       layout = c.commit_one.ensures.layout;
     }

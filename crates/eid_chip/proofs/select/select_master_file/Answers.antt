@@ -21,4 +21,4 @@ returns-clause-told c = λ kept channel.
     let later = option_map two_messages_later channel in
     let out = c.carried_out.ensures.did in
     carried SelectMasterFile kept (state c.args.session channel) (plain_command c.args.c.now) c.carried_out.result (plain_reply c.carried_out.new.reply) refl passes out.0 out.3 out.1
-    (ap (λ (s : Session). state s (option_map two_messages_later channel)) out.2 ∙ idle_state c.idle.result _ later c.idle.ensures.0 c.idle.ensures.1 ∙ master_file_leaves (state c.args.session channel) (plain_command c.args.c.now))
+    (ap (λ (s : Session). state s (option_map two_messages_later channel)) out.2 ∙ idle_state c.idle.result _ later c.idle.ensures.0 c.idle.ensures.1 ∙ master_file_leaves kept.fields (state c.args.session channel) (plain_command c.args.c.now))
