@@ -14,7 +14,7 @@ use Rattle.eid_chip.specs.declared.session.Memory.{Memory}
 use Rattle.eid_chip.specs.declared.session.Session.{Session}
 use Rattle.eid_chip.specs.declared.session.Run.TheVariants as runs
 use Rattle.eid_chip.specs.declared.reaction.Reaction.{Reaction}
-use Rattle.eid_chip.specs.States.{state, phase_of, next_of}
+use Rattle.eid_chip.specs.States.{state, authentication_of, phase_of, next_of}
 use Rattle.eid_chip.specs.Steps.{IsAnsweredByKind, known}
 use Rattle.eid_chip.specs.Transitions.{state_carried_out, two_messages_later}
 
@@ -28,7 +28,8 @@ pub idle_state : (s : Session) (m : Memory) (channel : Option ChannelState) → 
 idle_state s m channel run kept =
     let phase = ap phase_of run in
     let next = ap next_of run in
-    rw (phase, next, kept) refl
+    let none = ap authentication_of run in
+    rw (phase, next, none, kept) refl
 
 -- a command of a kind without questions that fails no rule
 pub carried : (kind : Kind) (kept : FullRecord) (old : State) (c : PlainCommand) (r : Reaction) (reply : PlainReply) → question_of (Some kind) (known kind kept old c []) ≡ None → first_failed (kind_rules ++ answer_rules ++ commit_rules ++ proof_rules) (known kind kept old c []) ≡ None → r.rule.0 ≡ 0 → r.opened ≡ None → reply ≡ success_of kind (known kind kept old c []) → state r.session (option_map two_messages_later old.channel) ≡ state_carried_out kept.fields kind c [] old → IsAnsweredByKind kind kept old c [] r reply

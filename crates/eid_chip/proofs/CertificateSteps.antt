@@ -22,25 +22,25 @@ use Rattle.eid_model.specs.Answers.{outcome_by, due_by, question_of, question_by
 use Rattle.eid_model.specs.Bodies.{key_name_in}
 use Rattle.eid_model.specs.Legal.{AreAsked}
 use Rattle.eid_model.specs.Rules.{RuleRow, kind_rules, answer_rules, commit_rules, proof_rules, first_failed, had_template, is_by_signer, name_chosen, one_effect, to_commit}
-use Rattle.eid_model.specs.Runs.{ChoseKey, answers_of, entered}
+use Rattle.eid_model.specs.Runs.{NotBegun, ChoseKey, answers_of, entered, claimed}
 use Rattle.eid_model.specs.Sessions.{State}
 use Rattle.eid_chip.specs.Steps.{CommitsOne, Imports, IsAnsweredByKind, PlainRefusal, WasRight, known, refusal_by, state_due, state_left, verify_ask}
-use Rattle.eid_chip.specs.Transitions.{state_carried_out, state_later, state_refused, with_certificates}
+use Rattle.eid_chip.specs.Transitions.{state_carried_out, state_refused, with_certificates}
 use Rattle.eid_chip.specs.declared.reaction.Reaction.{Reaction}
 use Rattle.eid_copro.specs.Asks.{fits_verify}
 use Rattle.eid_model.proofs.Books.{nothing_due_by}
 use Rattle.eid_chip.proofs.CarriedOut.{unasked_at}
 use Rattle.eid_chip.proofs.Outcomes.{passed}
-use Rattle.eid_chip.proofs.PaceSteps.{outcome_is, not_due_by}
+use Rattle.eid_chip.proofs.PaceSteps.{moved, outcome_is, not_due_by}
 
 abbrev refusal_with : ℕ → ℕ → Option PlainRefusal
 refusal_with rule status = Some (record { rule = rule; status = status })
 
 -- ---- the name of a public key
 
-pub key_passes : (kept : FullRecord) (old : State) (c : PlainCommand) (name : List ℕ) → key_name_in c.body ≡ Some name → is_some old.pace ≡ true → had_template old.pace ≡ true → is_some (signer_of kept.fields old.certificates name) ≡ true
+pub key_passes : (kept : FullRecord) (old : State) (c : PlainCommand) (name : List ℕ) → key_name_in c.body ≡ Some name → is_some old.pace ≡ true → had_template old.pace ≡ true → is_some old.terminal ≡ false → is_some (signer_of kept.fields old.certificates name) ≡ true
     → first_failed (kind_rules ++ answer_rules ++ commit_rules ++ proof_rules) (known SelectPublicKey kept old c []) ≡ None
-key_passes kept old c name named pace template signer = rw (named, pace, template, signer) refl
+key_passes kept old c name named pace template none signer = rw (named, pace, template, none, signer) refl
 
 -- a signer whose key is there is there
 pub signs_so : (o : Option Signer) (key : Option (List ℕ)) → key ≡ option_map key_of o → (key ≡ None → ⊥) → is_some o ≡ true
@@ -54,8 +54,8 @@ template_so o pace is some = (rw is refl, rw is (by pace.template some)) where
   by None e = absurd (cc)
   by (Some t) e = refl
 
-pub key_leaves : (kept : FullRecord) (old : State) (c : PlainCommand) (name : List ℕ) → key_name_in c.body ≡ Some name → record (state_later old) { next = Some VerifyCertificate; phase = ChoseKey name } ≡ state_carried_out kept.fields SelectPublicKey c [] old
-unfolding entered
+pub key_leaves : (kept : FullRecord) (old : State) (c : PlainCommand) (name : List ℕ) → key_name_in c.body ≡ Some name → moved (Some VerifyCertificate) (ChoseKey name) NotBegun old ≡ state_carried_out kept.fields SelectPublicKey c [] old
+unfolding entered claimed
 key_leaves kept old c name named = rw named refl
 
 -- ---- what may be accepted
@@ -190,7 +190,7 @@ asked_so kept old c certificate a answer imports fit = (
 
 right_commits_at : (kept : FullRecord) (old : State) (c : PlainCommand) (certificate : PlainCertificate) (a : PlainAccepted) (effect : PlainEffect) → Imports kept old c certificate a → a.advance ≡ Some effect
     → CommitsOne VerifyCertificate kept old c (verify_ask certificate a (answers.Verdict true) ∷ []) effect (Some a.chain)
-unfolding entered
+unfolding entered claimed
 right_commits_at kept old c certificate a effect imports some =
     let may = allowed kept.fields old.certificates (name_chosen old.phase) certificate.body a imports.given in
     record {
@@ -220,7 +220,7 @@ bound_passes kept old c given none = rw none refl
 unchanged_at : (kept : FullRecord) (old : State) (c : PlainCommand) (certificate : PlainCertificate) (a : PlainAccepted) (r : Reaction) (reply : PlainReply) → Imports kept old c certificate a → a.advance ≡ None
     → r.rule.0 ≡ 0 → reply ≡ status_alone 0x9000 → state_left r old.channel ≡ with_certificates (Some a.chain) (state_refused old)
     → IsAnsweredByKind VerifyCertificate kept old c (verify_ask certificate a (answers.Verdict true) ∷ []) r reply
-unfolding entered
+unfolding entered claimed
 unchanged_at kept old c certificate a r reply imports none rule answered left =
     let may = allowed kept.fields old.certificates (name_chosen old.phase) certificate.body a imports.given in
     let given : List Answer = answers.Verdict true ∷ [] in

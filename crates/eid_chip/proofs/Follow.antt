@@ -12,25 +12,25 @@ use Rattle.eid_bits.specs.Rights.{role_of}
 use Rattle.eid_bits.specs.declared.template.Role.{Role}
 use Rattle.eid_bits.specs.declared.template.Role.TheVariants.{Cvca, Domestic, Foreign, Terminal}
 use Rattle.eid_cvc.specs.Certificates.{PlainBody}
-use Rattle.eid_cvc.specs.Chains.{PlainChain}
+use Rattle.eid_cvc.specs.Chains.{PlainChain, PlainTerminalKnown}
 use Rattle.eid_trust.specs.Trust.{chain_with}
 use Rattle.eid_store.specs.Stands.{stands}
 use Rattle.eid_pace.specs.States.{PlainDone}
 use Rattle.eid_sm.specs.Keys.{Keys, ChannelState, next_counter}
 use Rattle.eid_model.specs.declared.kind.Kind.{Kind}
-use Rattle.eid_model.specs.declared.kind.Kind.TheVariants.{SelectApplication, SelectMasterFile, SelectFile, ReadBinary, SelectPace, SelectPublicKey, VerifyCertificate, EncryptedNonce, MapNonce, PerformKeyAgreement, MutualAuthentication, ChangePin, UnblockPin, NoStep}
+use Rattle.eid_model.specs.declared.kind.Kind.TheVariants.{SelectApplication, SelectMasterFile, SelectFile, ReadBinary, SelectPace, SelectPublicKey, VerifyCertificate, AnnounceTerminal, GetChallenge, ExternalAuthenticate, SelectChipAuthentication, EncryptedNonce, MapNonce, PerformKeyAgreement, MutualAuthentication, AuthenticateChip, ChangePin, UnblockPin, NoProtocol, NoStep}
 use Rattle.eid_model.specs.Kinds.{kind_in_table, step_after}
 use Rattle.eid_model.specs.Chains.{chain_of, chaining, more_pieces, pieces, request_of}
 use Rattle.eid_model.specs.Moments.{PlainMoment, on, live, ends_session_by}
-use Rattle.eid_model.specs.Runs.{Step, Phase, Idle, is_piece_of_next, continued, next, phase, entered, run, answers_of}
-use Rattle.eid_model.specs.Sessions.{State, PaceMemory, Accepted, accepts, accepted_by, accepted_behind, chain_left, kind_of_moment, pace_completed, state_in, selects, names, selection, naming, selected, current, pace, pace_done, pace_by, memory_of, keys_of, channel_keys, commands_since_opening, channel_after, channel}
+use Rattle.eid_model.specs.Runs.{Step, Phase, is_piece_of_next, continued, next, phase, entered, run, answers_of, claimed, Authentication, authentication}
+use Rattle.eid_model.specs.Sessions.{State, PaceMemory, context_of, terminal_behind, makes_known, made_known, chip_proof, chip_proven, keys_by, keys_with, Accepted, accepts, accepted_by, accepted_behind, chain_left, kind_of_moment, pace_completed, state_in, selection, naming, selected, current, pace, pace_done, pace_by, memory_of, channel_keys, commands_since_opening, channel_after, channel}
 use Rattle.eid_model.specs.Rules.{Incoming, NoCommand, MissingObjects, WrongObjects, OfCommand, Situation}
 use Rattle.eid_model.specs.Answers.{Outcome, outcome, question, due, situation, kind_incoming, command_of, no_command}
 use Rattle.eid_model.specs.Legal.{IsReadAs, AreAsked, IsHandled, answered, lost_in, situation_after}
-use Rattle.eid_model.specs.Ledger.{account, accepted, kept, pending, state_of, first_of, all_committed, MayHold}
+use Rattle.eid_model.specs.Ledger.{account, accepted, terminal, kept, pending, state_of, first_of, all_committed, MayHold}
 use Rattle.eid_model.proofs.Ledgers.{AreEntered}
 use Rattle.eid_model.proofs.Books.{due_entered, due_incoming, stood_answered, stood_lost}
-use Rattle.eid_chip.specs.Transitions.{chain_behind, state_answered, state_carried_out, state_later, state_piece, state_refused, two_messages_later}
+use Rattle.eid_chip.specs.Transitions.{chain_behind, context_in, without_run, state_answered, state_carried_out, state_later, state_piece, state_refused, two_messages_later}
 use Rattle.eid_apdu.specs.Answer.{PlainReply}
 use Rattle.eid_chip.specs.declared.reaction.Reaction.{Reaction}
 use Rattle.eid_chip.specs.declared.reaction.Ending.TheVariants.{Answered, Lost}
@@ -61,6 +61,11 @@ pace_more : (found last : Option PlainDone) → option_map memory_of (option_or 
 pace_more None last = refl
 pace_more (Some done) last = refl
 
+-- the identity is one of those things that are asked of the last PACE later
+identity_kept : (last : Option PlainDone) → option_map (λ d. d.identity) last ≡ option_map (λ pace. pace.identity) (option_map memory_of last)
+identity_kept None = refl
+identity_kept (Some done) = refl
+
 -- ---- the run
 
 run_next : (kind : Kind) (c : PlainCommand) (answers : List Answer) (steps : List Step) → next (continued (Some kind) (Some c) answers steps) ≡ step_after kind
@@ -71,6 +76,12 @@ run_next ReadBinary c answers steps = refl
 run_next SelectPace c answers steps = refl
 run_next SelectPublicKey c answers steps = refl
 run_next VerifyCertificate c answers steps = refl
+run_next AnnounceTerminal c answers steps = refl
+run_next GetChallenge c answers steps = refl
+run_next ExternalAuthenticate c answers steps = refl
+run_next SelectChipAuthentication c answers steps = refl
+run_next AuthenticateChip c answers steps = refl
+run_next NoProtocol c answers steps = refl
 run_next EncryptedNonce c answers steps = refl
 run_next MapNonce c answers steps = refl
 run_next PerformKeyAgreement c answers steps = refl
@@ -80,7 +91,7 @@ run_next UnblockPin c answers steps = refl
 run_next NoStep c answers steps = refl
 
 run_phase : (kind : Kind) (c : PlainCommand) (answers : List Answer) (steps : List Step) → phase (continued (Some kind) (Some c) answers steps) ≡ entered kind c answers (phase steps)
-unfolding entered
+unfolding entered claimed
 run_phase SelectApplication c answers steps = refl
 run_phase SelectMasterFile c answers steps = refl
 run_phase SelectFile c answers steps = refl
@@ -88,6 +99,12 @@ run_phase ReadBinary c answers steps = refl
 run_phase SelectPace c answers steps = refl
 run_phase SelectPublicKey c answers steps = refl
 run_phase VerifyCertificate c answers steps = refl
+run_phase AnnounceTerminal c answers steps = refl
+run_phase GetChallenge c answers steps = refl
+run_phase ExternalAuthenticate c answers steps = refl
+run_phase SelectChipAuthentication c answers steps = refl
+run_phase AuthenticateChip c answers steps = refl
+run_phase NoProtocol c answers steps = refl
 run_phase EncryptedNonce c answers steps = refl
 run_phase MapNonce c answers steps = refl
 run_phase PerformKeyAgreement c answers steps = refl
@@ -112,6 +129,32 @@ chain_more kept None None before = refl
 chain_more kept None (Some c) before = chain_with_role (role_of c.template) kept c before refl
 chain_more kept (Some done) certificate before = refl
 
+-- what a kind finds is what it leaves, where it is one whose step looks at it
+run_claim : (kind : Kind) (kept : PlainRecord) (c : PlainCommand) (answers : List Answer) (last : Option PlainDone) (before : List Accepted) (terminal : Option PlainTerminalKnown) (p : Phase) (steps : List Step)
+    → authentication (context_of (option_or (pace_done kind p) last) (accepted_behind kept (pace_done kind p) (accepts kind c) before) (terminal_behind (pace_done kind p) (makes_known kind (authentication (context_of last before terminal) steps)) terminal)) (continued (Some kind) (Some c) answers steps)
+    ≡ claimed kind c answers (context_of last before terminal) (authentication (context_of last before terminal) steps)
+unfolding claimed
+run_claim SelectApplication kept c answers last before terminal p steps = refl
+run_claim SelectMasterFile kept c answers last before terminal p steps = refl
+run_claim SelectFile kept c answers last before terminal p steps = refl
+run_claim ReadBinary kept c answers last before terminal p steps = refl
+run_claim SelectPace kept c answers last before terminal p steps = refl
+run_claim SelectPublicKey kept c answers last before terminal p steps = refl
+run_claim VerifyCertificate kept c answers last before terminal p steps = refl
+run_claim AnnounceTerminal kept c answers last before terminal p steps = refl
+run_claim GetChallenge kept c answers last before terminal p steps = refl
+run_claim ExternalAuthenticate kept c answers last before terminal p steps = refl
+run_claim SelectChipAuthentication kept c answers last before terminal p steps = refl
+run_claim EncryptedNonce kept c answers last before terminal p steps = refl
+run_claim MapNonce kept c answers last before terminal p steps = refl
+run_claim PerformKeyAgreement kept c answers last before terminal p steps = refl
+run_claim MutualAuthentication kept c answers last before terminal p steps = refl
+run_claim AuthenticateChip kept c answers last before terminal p steps = refl
+run_claim ChangePin kept c answers last before terminal p steps = refl
+run_claim UnblockPin kept c answers last before terminal p steps = refl
+run_claim NoProtocol kept c answers last before terminal p steps = refl
+run_claim NoStep kept c answers last before terminal p steps = refl
+
 -- ---- one moment more
 
 -- the channel after a command that opened one with these keys, or none
@@ -126,16 +169,26 @@ run_more kind whole answers piece steps = if is_piece_of_next (next steps) piece
 abbrev accepted_now : PlainRecord → Option Kind → Option PlainCommand → List PlainMoment → List Accepted → List Accepted
 accepted_now kept kind whole session before = accepted_behind kept (pace_by kind (phase (run session))) (accepted_by kind whole) before
 
+-- the terminal known then
+abbrev terminal_now : Option Kind → List PlainMoment → List Accepted → Option PlainTerminalKnown → Option PlainTerminalKnown
+terminal_now kind session before terminal =
+    terminal_behind (pace_by kind (phase (run session))) (made_known kind (authentication (context_of (pace session) before terminal) (run session))) terminal
+
 -- what a session's moments leave, with one moment more that carried out a request of this kind, took this fragment, or neither
-abbrev more : PlainRecord → List Accepted → Option Kind → Option PlainCommand → List Answer → Option PlainCommand → List PlainMoment → State
-more kept before kind whole answers piece session = record {
+abbrev more : PlainRecord → List Accepted → Option PlainTerminalKnown → Option Kind → Option PlainCommand → List Answer → Option PlainCommand → List PlainMoment → State
+more kept before terminal kind whole answers piece session = record {
   next = next (run_more kind whole answers piece (run session));
   phase = phase (run_more kind whole answers piece (run session));
+  authentication = authentication
+      (context_of (option_or (pace_by kind (phase (run session))) (pace session)) (accepted_now kept kind whole session before) (terminal_now kind session before terminal))
+      (run_more kind whole answers piece (run session));
   selected = unwrap_or (selection kind) (selected session);
   current = if is_some (selection kind) then None else option_or (naming kind whole) (current session);
   pace = option_map memory_of (option_or (pace_by kind (phase (run session))) (pace session));
   certificates = chain_left (accepted_now kept kind whole session before);
-  channel = channel_with (commands_since_opening session) (option_map keys_of (pace_by kind (phase (run session)))) (channel_keys session);
+  terminal = terminal_now kind session before terminal;
+  chip_proven = unwrap_or (chip_proof kind) (chip_proven session);
+  channel = channel_with (commands_since_opening session) (keys_with kind answers (phase (run session))) (channel_keys session);
   chaining = chain_of (more_pieces piece (pieces session));
 }
 
@@ -147,16 +200,16 @@ unkinded stays old = if stays then state_later old else state_refused old
 abbrev left_with : List PlainCommand → State → State
 left_with fragments s = chained (chain_of fragments) s
 
-more_none : (stays : Bool) (kept : PlainRecord) (before : List Accepted) (whole : Option PlainCommand) (answers : List Answer) (piece : Option PlainCommand) (session : List PlainMoment)
+more_none : (stays : Bool) (kept : PlainRecord) (before : List Accepted) (terminal : Option PlainTerminalKnown) (whole : Option PlainCommand) (answers : List Answer) (piece : Option PlainCommand) (session : List PlainMoment)
     → is_piece_of_next (next (run session)) piece ≡ stays
-    → more kept before None whole answers piece session ≡ left_with (more_pieces piece (pieces session)) (unkinded stays (state_in before session))
-more_none true kept before whole answers piece session is =
-    rw is (ap (λ (c : Option ChannelState). record (state_in before session) { channel = c; chaining = chain_of (more_pieces piece (pieces session)) }) (later_channel (commands_since_opening session) (channel_keys session)))
-more_none false kept before whole answers piece session is =
-    rw is (ap (λ (c : Option ChannelState). record (state_in before session) { next = None; phase = Idle; channel = c; chaining = chain_of (more_pieces piece (pieces session)) }) (later_channel (commands_since_opening session) (channel_keys session)))
+    → more kept before terminal None whole answers piece session ≡ left_with (more_pieces piece (pieces session)) (unkinded stays (state_in before terminal session))
+more_none true kept before terminal whole answers piece session is =
+    rw is (ap (λ (c : Option ChannelState). record (state_in before terminal session) { channel = c; chaining = chain_of (more_pieces piece (pieces session)) }) (later_channel (commands_since_opening session) (channel_keys session)))
+more_none false kept before terminal whole answers piece session is =
+    rw is (ap (λ (c : Option ChannelState). record (without_run (state_in before terminal session)) { channel = c; chaining = chain_of (more_pieces piece (pieces session)) }) (later_channel (commands_since_opening session) (channel_keys session)))
 
-abbrev made : Option Kind → Phase → Bool → Option ℕ → Option PaceMemory → PlainChain → Option ChannelState → State
-made a b s d e p f = record { next = a; phase = b; selected = s; current = d; pace = e; certificates = p; channel = f; chaining = None }
+abbrev made : State → Option Kind → Phase → Authentication → Option PaceMemory → PlainChain → Option ChannelState → State
+made s a b n e p f = record s { next = a; phase = b; authentication = n; pace = e; certificates = p; channel = f; chaining = None }
 
 no_piece : (kind : Option Kind) → is_piece_of_next kind None ≡ false
 no_piece None = refl
@@ -165,25 +218,30 @@ no_piece (Some kind) = refl
 run_some : (kind : Kind) (c : PlainCommand) (answers : List Answer) (steps : List Step) → run_more (Some kind) (Some c) answers None steps ≡ continued (Some kind) (Some c) answers steps
 run_some kind c answers steps = rw (no_piece (next steps)) refl
 
-more_some : (kept : PlainRecord) (before : List Accepted) (kind : Kind) (c : PlainCommand) (answers : List Answer) (session : List PlainMoment)
-    → more kept before (Some kind) (Some c) answers None session ≡ state_carried_out kept kind c answers (state_in before session)
-more_some kept before kind c answers session =
+more_some : (kept : PlainRecord) (before : List Accepted) (terminal : Option PlainTerminalKnown) (kind : Kind) (c : PlainCommand) (answers : List Answer) (session : List PlainMoment)
+    → more kept before terminal (Some kind) (Some c) answers None session ≡ state_carried_out kept kind c answers (state_in before terminal session)
+more_some kept before terminal kind c answers session =
     let found = pace_done kind (phase (run session)) in
-    let a = continued (Some kind) (Some c) answers (run session) in
-    let chosen : Bool = unwrap_or (selects kind) (selected session) in
-    let file : Option ℕ = if is_some (selects kind) then None else option_or (names kind c) (current session) in
+    let new = continued (Some kind) (Some c) answers (run session) in
+    let all : State = more kept before terminal (Some kind) (Some c) answers None session in
+    let old : State = state_in before terminal session in
+    let context = context_of (option_or found (pace session)) (accepted_now kept (Some kind) (Some c) session before) (terminal_now (Some kind) session before terminal) in
+    let claim = claimed kind c answers (context_in old) old.authentication in
+    let step = entered kind c answers (phase (run session)) in
     let p = option_map memory_of (option_or found (pace session)) in
     let chain = chain_left (accepted_now kept (Some kind) (Some c) session before) in
-    let keys = option_map keys_of found in
+    let chain_is = chain_behind kept found (accepts kind c) (chain_left before) in
+    let keys = keys_by kind answers (phase (run session)) in
     let ch = channel_with (commands_since_opening session) keys (channel_keys session) in
     let now = option_or (option_map memory_of found) (option_map memory_of (pace session)) in
-    ap (λ (l : List Step). made (next l) (phase l) chosen file p chain ch) (run_some kind c answers (run session))
-    ∙ ap (λ x. made x (phase a) chosen file p chain ch) (run_next kind c answers (run session))
-    ∙ ap (λ x. made (step_after kind) x chosen file p chain ch) (run_phase kind c answers (run session))
-    ∙ ap (λ x. made (step_after kind) (entered kind c answers (phase (run session))) chosen file x chain ch) (pace_more found (pace session))
-    ∙ ap (λ x. made (step_after kind) (entered kind c answers (phase (run session))) chosen file now x ch) (chain_more kept found (accepts kind c) before)
-    ∙ ap (λ x. made (step_after kind) (entered kind c answers (phase (run session))) chosen file now (chain_behind kept found (accepts kind c) (chain_left before)) x)
-    (channel_more (commands_since_opening session) keys (channel_keys session))
+    ap (λ (l : List Step). made all (next l) (phase l) (authentication context l) p chain ch) (run_some kind c answers (run session))
+    ∙ ap (λ x. made all x (phase new) (authentication context new) p chain ch) (run_next kind c answers (run session))
+    ∙ ap (λ x. made all (step_after kind) x (authentication context new) p chain ch) (run_phase kind c answers (run session))
+    ∙ ap (λ x. made all (step_after kind) step x p chain ch)
+    (run_claim kind kept c answers (pace session) before terminal (phase (run session)) (run session) ∙ ap (λ (i : Option (List ℕ)). claimed kind c answers (record (context_in old) { identity = i }) old.authentication) (identity_kept (pace session)))
+    ∙ ap (λ x. made all (step_after kind) step claim x chain ch) (pace_more found (pace session))
+    ∙ ap (λ x. made all (step_after kind) step claim now x ch) (chain_more kept found (accepts kind c) before)
+    ∙ ap (λ x. made all (step_after kind) step claim now chain_is x) (channel_more (commands_since_opening session) keys (channel_keys session))
 
 -- a fragment more in a chain
 fragments_more : (c : PlainCommand) (fragments : List PlainCommand) → chain_of (c ∷ fragments) ≡ chain_after (chain_of fragments) c More
@@ -191,58 +249,67 @@ fragments_more c [] = refl
 fragments_more c (last ∷ before) = refl
 
 -- what a command leaves, by whether it was answered without a refusal, whether it is a fragment, and its kind
-more_at : (kept : PlainRecord) (before : List Accepted) (carried is_piece : Bool) (kind : Option Kind) (rule : ℕ) (c : PlainCommand) (answers : List Answer) (session : List PlainMoment)
+more_at : (kept : PlainRecord) (before : List Accepted) (terminal : Option PlainTerminalKnown) (carried is_piece : Bool) (kind : Option Kind) (rule : ℕ) (c : PlainCommand) (answers : List Answer) (session : List PlainMoment)
     → (rule == 0) ≡ carried → is_fragment c ≡ is_piece
-    → more kept before (if carried then (if is_piece then None else kind) else None) (Some (request (chaining session) c)) answers
-    (if carried then (if is_piece then Some c else None) else None) session ≡ state_answered kept rule (if is_piece then None else kind) c answers (state_in before session)
-more_at kept before true true kind rule c answers session done piece =
-    more_none (is_piece_of_next (next (run session)) (Some c)) kept before (Some (request (chaining session) c)) answers (Some c) session refl
-    ∙ ap (λ (o : Option OpenChain). chained o (state_piece c (state_in before session))) (fragments_more c (pieces session)) ∙ rw (done, piece) refl
-more_at kept before true false None rule c answers session done piece =
-    more_none false kept before (Some (request (chaining session) c)) answers None session (no_piece (next (run session))) ∙ rw (done, piece) refl
-more_at kept before true false (Some kind) rule c answers session done piece =
-    more_some kept before kind (request (chaining session) c) answers session ∙ rw done refl
-more_at kept before false true kind rule c answers session done piece =
-    more_none false kept before (Some (request (chaining session) c)) answers None session (no_piece (next (run session))) ∙ rw done refl
-more_at kept before false false None rule c answers session done piece =
-    more_none false kept before (Some (request (chaining session) c)) answers None session (no_piece (next (run session))) ∙ rw done refl
-more_at kept before false false (Some kind) rule c answers session done piece =
-    more_none false kept before (Some (request (chaining session) c)) answers None session (no_piece (next (run session))) ∙ rw done refl
+    → more kept before terminal (if carried then (if is_piece then None else kind) else None) (Some (request (chaining session) c)) answers
+    (if carried then (if is_piece then Some c else None) else None) session ≡ state_answered kept rule (if is_piece then None else kind) c answers (state_in before terminal session)
+more_at kept before terminal true true kind rule c answers session done piece =
+    more_none (is_piece_of_next (next (run session)) (Some c)) kept before terminal (Some (request (chaining session) c)) answers (Some c) session refl
+    ∙ ap (λ (o : Option OpenChain). chained o (state_piece c (state_in before terminal session))) (fragments_more c (pieces session)) ∙ rw (done, piece) refl
+more_at kept before terminal true false None rule c answers session done piece =
+    more_none false kept before terminal (Some (request (chaining session) c)) answers None session (no_piece (next (run session))) ∙ rw (done, piece) refl
+more_at kept before terminal true false (Some kind) rule c answers session done piece =
+    more_some kept before terminal kind (request (chaining session) c) answers session ∙ rw done refl
+more_at kept before terminal false true kind rule c answers session done piece =
+    more_none false kept before terminal (Some (request (chaining session) c)) answers None session (no_piece (next (run session))) ∙ rw done refl
+more_at kept before terminal false false None rule c answers session done piece =
+    more_none false kept before terminal (Some (request (chaining session) c)) answers None session (no_piece (next (run session))) ∙ rw done refl
+more_at kept before terminal false false (Some kind) rule c answers session done piece =
+    more_none false kept before terminal (Some (request (chaining session) c)) answers None session (no_piece (next (run session))) ∙ rw done refl
 
 -- no command leaves no fragments
-unread : (kept : PlainRecord) (before : List Accepted) (carried : Bool) (rule : ℕ) (answers : List Answer) (session : List PlainMoment) → (rule == 0) ≡ carried
-    → more kept before (if carried then None else None) None answers (if carried then None else None) session ≡ state_answered kept rule None no_command answers (state_in before session)
-unread kept before true rule answers session is = more_none false kept before None answers None session (no_piece (next (run session))) ∙ rw is refl
-unread kept before false rule answers session is = more_none false kept before None answers None session (no_piece (next (run session))) ∙ rw is refl
+unread : (kept : PlainRecord) (before : List Accepted) (terminal : Option PlainTerminalKnown) (carried : Bool) (rule : ℕ) (answers : List Answer) (session : List PlainMoment) → (rule == 0) ≡ carried
+    → more kept before terminal (if carried then None else None) None answers (if carried then None else None) session ≡ state_answered kept rule None no_command answers (state_in before terminal session)
+unread kept before terminal true rule answers session is = more_none false kept before terminal None answers None session (no_piece (next (run session))) ∙ rw is refl
+unread kept before terminal false rule answers session is = more_none false kept before terminal None answers None session (no_piece (next (run session))) ∙ rw is refl
 
 -- the certificates that count after a moment of a session that goes on
 abbrev accepted_then : PlainRecord → PlainMoment → List PlainMoment → List Accepted → List Accepted
 accepted_then kept m session before = accepted_behind kept (pace_completed m session) (accepted_by (kind_of_moment m session) (request_of m session)) before
 
+-- and the terminal known
+abbrev terminal_then : PlainMoment → List PlainMoment → List Accepted → Option PlainTerminalKnown → Option PlainTerminalKnown
+terminal_then m session before terminal =
+    terminal_behind (pace_completed m session) (made_known (kind_of_moment m session) (authentication (context_of (pace session) before terminal) (run session))) terminal
+
 -- the state of a session with one more moment
-pub state_more : (kept : PlainRecord) (before : List Accepted) (ch : Option ChannelState) (bytes : List ℕ) (incoming : Incoming) (asks : List Ask) (finished : ℕ) (o : Outcome) (session : List PlainMoment)
-    → state_in (accepted_then kept (answered ch bytes incoming asks finished o) session before) (answered ch bytes incoming asks finished o ∷ session)
-    ≡ state_answered kept o.rule (kind_incoming (state_in before session) incoming) (command_of incoming) (answers_of asks) (state_in before session)
-state_more kept before ch bytes NoCommand asks finished o session = unread kept before (o.rule == 0) o.rule (answers_of asks) session refl
-state_more kept before ch bytes MissingObjects asks finished o session = unread kept before (o.rule == 0) o.rule (answers_of asks) session refl
-state_more kept before ch bytes WrongObjects asks finished o session = unread kept before (o.rule == 0) o.rule (answers_of asks) session refl
-state_more kept before ch bytes (OfCommand c) asks finished o session =
-    more_at kept before (o.rule == 0) (is_fragment c) (kind_in_table (next (run session)) (request (chaining session) c)) o.rule c (answers_of asks) session refl refl
+abbrev state_then : PlainRecord → PlainMoment → List PlainMoment → List Accepted → Option PlainTerminalKnown → State
+state_then kept m session before terminal = state_in (accepted_then kept m session before) (terminal_then m session before terminal) (m ∷ session)
+
+pub state_more : (kept : PlainRecord) (before : List Accepted) (terminal : Option PlainTerminalKnown) (ch : Option ChannelState) (bytes : List ℕ) (incoming : Incoming) (asks : List Ask) (finished : ℕ) (o : Outcome) (session : List PlainMoment)
+    → state_then kept (answered ch bytes incoming asks finished o) session before terminal
+    ≡ state_answered kept o.rule (kind_incoming (state_in before terminal session) incoming) (command_of incoming) (answers_of asks) (state_in before terminal session)
+state_more kept before terminal ch bytes NoCommand asks finished o session = unread kept before terminal (o.rule == 0) o.rule (answers_of asks) session refl
+state_more kept before terminal ch bytes MissingObjects asks finished o session = unread kept before terminal (o.rule == 0) o.rule (answers_of asks) session refl
+state_more kept before terminal ch bytes WrongObjects asks finished o session = unread kept before terminal (o.rule == 0) o.rule (answers_of asks) session refl
+state_more kept before terminal ch bytes (OfCommand c) asks finished o session =
+    more_at kept before terminal (o.rule == 0) (is_fragment c) (kind_in_table (next (run session)) (request (chaining session) c)) o.rule c (answers_of asks) session refl refl
 
 -- the state of a journal with one more moment that was answered
-live_more : (ends : Bool) (rule : ℕ) (m : PlainMoment) (before : List PlainMoment) (then_accepted : List Accepted) (new : State) → ends_session_by rule ≡ ends
-    → state_in then_accepted (m ∷ live before) ≡ new
-    → state_due rule new ≡ state_in (if not (not (ends_session_by rule)) then [] else then_accepted) (if not (not (ends_session_by rule)) then [] else m ∷ live before)
-live_more true rule m before then_accepted new is states = rw is refl
-live_more false rule m before then_accepted new is states = rw is (sym states)
+live_more : (ends : Bool) (rule : ℕ) (m : PlainMoment) (before : List PlainMoment) (then_accepted : List Accepted) (then_known : Option PlainTerminalKnown) (new : State) → ends_session_by rule ≡ ends
+    → state_in then_accepted then_known (m ∷ live before) ≡ new
+    → state_due rule new
+    ≡ state_in (if not (not (ends_session_by rule)) then [] else then_accepted) (if not (not (ends_session_by rule)) then None else then_known) (if not (not (ends_session_by rule)) then [] else m ∷ live before)
+live_more true rule m before then_accepted then_known new is states = rw is refl
+live_more false rule m before then_accepted then_known new is states = rw is (sym states)
 
 left_more : (opening : FullRecord) (before : List PlainMoment) (ch : Option ChannelState) (bytes : List ℕ) (incoming : Incoming) (asks : List Ask) (finished : ℕ) (o : Outcome) (new : State)
-    → state_in (accepted_then (kept opening before).fields (answered ch bytes incoming asks finished o) (live before) (accepted opening before)) (answered ch bytes incoming asks finished o ∷ live before) ≡ new
+    → state_then (kept opening before).fields (answered ch bytes incoming asks finished o) (live before) (accepted opening before) (terminal opening before) ≡ new
     → state_due o.rule new ≡ state_of opening (answered ch bytes incoming asks finished o ∷ before)
 unfolding account
 left_more opening before ch bytes incoming asks finished o new states =
     let m : PlainMoment = answered ch bytes incoming asks finished o in
-    live_more (ends_session_by o.rule) o.rule m before (accepted_then (kept opening before).fields m (live before) (accepted opening before)) new refl states
+    live_more (ends_session_by o.rule) o.rule m before (accepted_then (kept opening before).fields m (live before) (accepted opening before)) (terminal_then m (live before) (accepted opening before) (terminal opening before)) new refl states
 
 -- cells hold what the books of these moments say
 abbrev pub Holds : FullRecord → List PlainMoment → List ℕ → Type 0
@@ -270,8 +337,8 @@ responded old opening before bytes incoming asks r finished reply left was now p
     same_situation due (held was.cells) full old (state_of opening before) incoming (answers_of asks) same is in
     let ends : outcome_seen r reply ≡ outcome (situation_after opening before incoming (answers_of asks)) =
     sym ended.ended.1 ∙ same_situation outcome (held was.cells) full old (state_of opening before) incoming (answers_of asks) same is in
-    let next_state : state_in (accepted_then full.fields m (live before) (accepted opening before)) (m ∷ live before) ≡ state_answered (held was.cells).fields r.rule.0 (kind_incoming old incoming) (command_of incoming) (answers_of asks) old =
-    state_more full.fields (accepted opening before) old.channel bytes incoming asks finished (outcome_seen r reply) (live before)
+    let next_state : state_then full.fields m (live before) (accepted opening before) (terminal opening before) ≡ state_answered (held was.cells).fields r.rule.0 (kind_incoming old incoming) (command_of incoming) (answers_of asks) old =
+    state_more full.fields (accepted opening before) (terminal opening before) old.channel bytes incoming asks finished (outcome_seen r reply) (live before)
     ∙ ap (λ (s : State). state_answered full.fields r.rule.0 (kind_incoming s incoming) (command_of incoming) (answers_of asks) s) (sym is)
     ∙ ap (λ (k : FullRecord). state_answered k.fields r.rule.0 (kind_incoming old incoming) (command_of incoming) (answers_of asks) old) (sym same) in
     let made : m ≡ answered (channel (live before)) bytes incoming asks (length (due (situation_after opening before incoming (answers_of asks)))) (outcome (situation_after opening before incoming (answers_of asks))) =

@@ -14,3 +14,5 @@ pub mod PinSteps
 pub mod Management
 pub mod Tries
 pub mod CertificateSteps
+pub mod TerminalSteps
+pub mod ChipSteps

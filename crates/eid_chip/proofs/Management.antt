@@ -10,7 +10,7 @@ use Rattle.eid_password.specs.Passwords.{is_pin, is_puk}
 use Rattle.eid_model.specs.declared.kind.Kind.TheVariants.{ChangePin, UnblockPin}
 use Rattle.eid_model.specs.Rules.{answer_rules, first_failed, is_formed, kind_rules, was_with}
 use Rattle.eid_chip.proofs.CarriedOut.{unasked_at}
-use Rattle.eid_model.specs.Runs.{entered}
+use Rattle.eid_model.specs.Runs.{entered, claimed}
 use Rattle.eid_model.specs.Sessions.{State}
 use Rattle.eid_chip.specs.States.{memory}
 use Rattle.eid_chip.specs.Steps.{CommitsOne, PlainRefusal, known, refusal_by}
@@ -55,7 +55,7 @@ pub change_by_another : (kept : FullRecord) (old : State) (c : PlainCommand) →
 change_by_another kept old c formed some other = rw (formed, some, other) refl
 
 pub changes : (kept : FullRecord) (old : State) (c : PlainCommand) (pin : List ℕ) → is_formed (Some ChangePin) c.body ≡ true → is_some old.pace ≡ true → was_with is_pin old.pace ≡ true → pin ≡ c.body → CommitsOne ChangePin kept old c [] (SetPin pin) None
-unfolding entered
+unfolding entered claimed
 changes kept old c pin formed some by_pin is = record {
   asked = unasked_at (is_none (first_failed (kind_rules ++ answer_rules) (known ChangePin kept old c []))) _ refl;
   passes = rw (formed, some, by_pin) refl;
@@ -81,7 +81,7 @@ pub unblock_at_none : (kept : FullRecord) (old : State) (c : PlainCommand) → (
 unblock_at_none kept old c formed some by_puk none = rw (formed, some, by_puk, none) refl
 
 pub unblocks : (kept : FullRecord) (old : State) (c : PlainCommand) → (length c.body == 0) ≡ true → is_some old.pace ≡ true → was_with is_puk old.pace ≡ true → nat_le 1 kept.fields.unblocks ≡ true → CommitsOne UnblockPin kept old c [] (Unblock true) None
-unfolding entered
+unfolding entered claimed
 unblocks kept old c formed some by_puk left = record {
   asked = unasked_at (is_none (first_failed (kind_rules ++ answer_rules) (known UnblockPin kept old c []))) _ refl;
   passes = rw (formed, some, by_puk, left) refl;

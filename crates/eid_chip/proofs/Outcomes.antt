@@ -147,7 +147,7 @@ command_rule kept old c answers o is =
     let later = naming_rules ++ request_rules ++ kind_rules ++ answer_rules ++ commit_rules ++ proof_rules in
     let found : first_failed (transport_rules ++ later) s ≡ first_failed later s = passed transport_rules later s refl in
     ap (λ (x : Outcome). is_on_objects x.rule) (sym is) ∙ ap (λ (f : Option RuleRow). is_on_objects (outcome_by f s).rule) found
-    ∙ others_fail later s (refl, (refl, (refl, (refl, (refl, (refl, (refl, (refl, (refl, (refl, (refl, (refl, (refl, (refl, (refl, (refl, (refl, (refl, (refl, (refl, (refl, (refl, (refl, (refl, (refl, (refl, (refl, (refl, (refl, (refl, (refl, _)))))))))))))))))))))))))))))))
+    ∙ others_fail later s (refl, (refl, (refl, (refl, (refl, (refl, (refl, (refl, (refl, (refl, (refl, (refl, (refl, (refl, (refl, (refl, (refl, (refl, (refl, (refl, (refl, (refl, (refl, (refl, (refl, (refl, (refl, (refl, (refl, (refl, (refl, (refl, (refl, (refl, (refl, (refl, _))))))))))))))))))))))))))))))))))))
 
 pub command_answered : (old : State) (c : PlainCommand) (asks : List Ask) (ending : Ending) (reply : PlainReply) (left : Option OpenChain) (before after : World) → IsEndedByRules old (OfCommand c) asks ending reply left before after → is_on_objects (rule_of ending) ≡ false
 command_answered old c asks (Answered r finished) reply left before after did = command_rule (held before.cells) old c (answers_of asks) (outcome_seen r reply) did.ended.1
@@ -395,14 +395,14 @@ request_reacts session fragments c refused ending r reply left copro store devic
 
 -- the last command of a request that can be answered ends by the rules of its kind
 pub request_answered : (session : Session) (fragments : Option OpenChain) (c whole : PlainCommand) (kind : Kind) (ending : Ending) (reply : PlainReply) (left : Option OpenChain) (before after : World)
-    → continues fragments c ≡ true → length (body_so_far fragments c.body) ≤ MAX_REQUEST → kind_named (next_of session.run) c ≡ Some kind → Passes c
+    → continues fragments c ≡ true → length (body_so_far fragments c.body) ≤ MAX_REQUEST → kind_named (next_of session.run) whole ≡ Some kind → Passes c
     → whole ≡ request fragments c → left ≡ None → Performed kind session whole ending reply before after → Reacts session fragments c ending reply left before after
 request_answered session fragments c whole kind ending reply left before after goes_on short named names is closed did = record {
   asks = did.asks;
   were_asked = did.were_asked;
   ended = λ channel. let old : State = chained fragments (state session channel) in
       subst (λ (o : Option OpenChain). IsEndedByRules old (OfCommand c) did.asks ending reply o before after) (sym closed)
-      (ended_by_rules old c kind did.asks ending reply before after (record { goes_on = goes_on; named = named }) (names (held before.cells) old)
+      (ended_by_rules old c kind did.asks ending reply before after (record { goes_on = goes_on; named = ap (kind_named (next_of session.run)) (sym is) ∙ named }) (names (held before.cells) old)
       (λ answers. request_passes (held before.cells) old c answers goes_on short)
       (subst (λ (w : PlainCommand). IsEndedByKind kind (state session channel) w did.asks ending reply before after) is (did.ended channel)));
   layout = did.layout;

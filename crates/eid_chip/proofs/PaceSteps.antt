@@ -31,7 +31,7 @@ use Rattle.eid_model.specs.declared.kind.Kind.TheVariants.{SelectPace, Encrypted
 use Rattle.eid_model.specs.Answers.{status_alone, data_alone, previous_name, select_reply}
 use Rattle.eid_model.specs.Bodies.{no_data, authentication_data, data_in, holds_point, holds_value}
 use Rattle.eid_model.specs.Rules.{names_password, was_with}
-use Rattle.eid_model.specs.Runs.{Phase, Chose, SentNonce, HasBase, HasSecret, entered, as_chosen, with_nonce, with_base, with_secret}
+use Rattle.eid_model.specs.Runs.{Phase, Chose, SentNonce, HasBase, HasSecret, entered, as_chosen, with_nonce, with_base, with_secret, claimed, Authentication, NotBegun}
 use Rattle.eid_model.specs.Sessions.{State, memory_of, keys_of, channel_after}
 use Rattle.eid_chip.specs.Transitions.{state_by_kind, state_carried_out, state_later, state_refused, without_run}
 use Rattle.eid_chip.specs.declared.reaction.Reaction.{Reaction}
@@ -40,17 +40,18 @@ use Rattle.eid_chip.specs.States.{state}
 use Rattle.eid_chip.specs.Steps.{IsAnsweredByKind, state_left, state_due, outcome_seen, PlainRefusal, start_refused}
 
 -- the state where the run has come to another step, one command later
-abbrev moved : Option Kind → Phase → State → State
-moved next phase old = record (state_later old) { next = next; phase = phase }
+abbrev pub moved : Option Kind → Phase → Authentication → State → State
+moved next phase authentication old = record (state_later old) { next = next; phase = phase; authentication = authentication }
 
 -- a reaction that carried the command out, and opened no channel
-pub record WentOn (reaction : Reaction) (said : PlainReply) (old : State) (next : Option Kind) (phase : Phase) (reply : PlainReply) : Type 0 where
+pub record WentOn (reaction : Reaction) (said : PlainReply) (old : State) (next : Option Kind) (phase : Phase) (authentication : Authentication) (reply : PlainReply)
+    : Type 0 where
   pub rule : reaction.rule.0 ≡ 0
   pub answered : said ≡ reply
-  pub state : state_left reaction old.channel ≡ moved next phase old
+  pub state : state_left reaction old.channel ≡ moved next phase authentication old
 
 pub went_on : (reaction : Reaction) (said : PlainReply) (old : Session) (channel : Option ChannelState) (new : Session) (reply : PlainReply) → reaction.rule.0 ≡ 0 → said ≡ reply → reaction.opened ≡ None → reaction.session ≡ new → old.memory ≡ new.memory
-    → WentOn reaction said (state old channel) (state new channel).next (state new channel).phase reply
+    → WentOn reaction said (state old channel) (state new channel).next (state new channel).phase (state new channel).authentication reply
 went_on reaction said old channel new reply rule answer opened session memory = record {
   rule = rule;
   answered = answer;
@@ -60,7 +61,7 @@ went_on reaction said old channel new reply rule answer opened session memory = 
 pub outcome_is : (rule : ℕ) (reply : PlainReply) (reaction : Reaction) (said : PlainReply) → reaction.rule.0 ≡ rule → said ≡ reply → record { rule = rule; reply = reply } ≡ outcome_seen reaction said
 outcome_is rule reply reaction said e f = cc
 
-due : (kept : PlainRecord) (rule : ℕ) (kind : Kind) (c : PlainCommand) (given : List Answer) (old : State) → rule ≡ 0 → state_carried_out kept kind c given old ≡ state_due rule (state_by_kind kept rule kind c given old)
+pub due : (kept : PlainRecord) (rule : ℕ) (kind : Kind) (c : PlainCommand) (given : List Answer) (old : State) → rule ≡ 0 → state_carried_out kept kind c given old ≡ state_due rule (state_by_kind kept rule kind c given old)
 due kept rule kind c given old e = rw e refl
 
 -- a body that has not the form of its step
@@ -69,7 +70,7 @@ pub record WasUnformed (reaction : Reaction) (said : PlainReply) (old : State) :
   pub answered : said ≡ status_alone 0x6A80
   pub state : state_left reaction old.channel ≡ state_due 10 (state_refused old)
 
-not_due : (kept : PlainRecord) (rule : ℕ) (kind : Kind) (c : PlainCommand) (given : List Answer) (old : State) → rule ≡ 10 → state_due 10 (state_refused old) ≡ state_due rule (state_by_kind kept rule kind c given old)
+pub not_due : (kept : PlainRecord) (rule : ℕ) (kind : Kind) (c : PlainCommand) (given : List Answer) (old : State) → rule ≡ 10 → state_due 10 (state_refused old) ≡ state_due rule (state_by_kind kept rule kind c given old)
 not_due kept rule kind c given old e = rw e refl
 
 pub no_empty_body : (kept : FullRecord) (old : State) (c : PlainCommand) (reaction : Reaction) (said : PlainReply) → bytes_eq c.body no_data ≡ false → WasUnformed reaction said old → IsAnsweredByKind EncryptedNonce kept old c [] reaction said
@@ -102,8 +103,8 @@ chosen_parts (Some s) choice e = (refl, at (password_named s.reference) e)
     at None e = absurd cc
     at (Some password) e = refl
 
-pub selected : (kept : FullRecord) (old : State) (c : PlainCommand) (choice : PlainChoice) (reaction : Reaction) (said : PlainReply) → Ok choice ≡ chosen_by (selection_in c.body) → WentOn reaction said old (Some EncryptedNonce) (Chose choice) (status_alone (select_status kept.fields choice.password)) → IsAnsweredByKind SelectPace kept old c [] reaction said
-unfolding entered
+pub selected : (kept : FullRecord) (old : State) (c : PlainCommand) (choice : PlainChoice) (reaction : Reaction) (said : PlainReply) → Ok choice ≡ chosen_by (selection_in c.body) → WentOn reaction said old (Some EncryptedNonce) (Chose choice) NotBegun (status_alone (select_status kept.fields choice.password)) → IsAnsweredByKind SelectPace kept old c [] reaction said
+unfolding entered claimed
 selected kept old c choice reaction said e h =
     let parts = chosen_parts (selection_in c.body) choice e in
     let phase : Chose choice ≡ as_chosen (result_ok (chosen_by (selection_in c.body))) = ap (λ (r : Result PlainChoice ℕ). as_chosen (result_ok r)) e in
@@ -111,10 +112,10 @@ selected kept old c choice reaction said e h =
       asked = rw (parts.0, parts.1) refl;
       ended = rw (parts.0, parts.1) (ap (λ (r : Result PlainChoice ℕ). record { rule = 0; reply = select_reply kept.fields (result_ok r) }) (sym e)
           ∙ outcome_is 0 (status_alone (select_status kept.fields choice.password)) reaction said h.rule h.answered);
-      left = h.state ∙ ap (λ (p : Phase). moved (Some EncryptedNonce) p old) phase ∙ due kept.fields reaction.rule.0 SelectPace c [] old h.rule;
+      left = h.state ∙ ap (λ (p : Phase). moved (Some EncryptedNonce) p NotBegun old) phase ∙ due kept.fields reaction.rule.0 SelectPace c [] old h.rule;
     }
 
-both : {A B E : Type 0} (x a : A) (y b : B) → ◌≡◌ {A = Result (A × B) E} (Ok (x, y)) (Ok (a, b)) → (x ≡ a) × (y ≡ b)
+pub both : {A B E : Type 0} (x a : A) (y b : B) → ◌≡◌ {A = Result (A × B) E} (Ok (x, y)) (Ok (a, b)) → (x ≡ a) × (y ≡ b)
 both {A = A} {B = B} x a y b e =
     let pair : ◌≡◌ {A = A × B} (x, y) (a, b) = cc in
     (ap (λ (p : A × B). p.0) pair, ap (λ (p : A × B). p.1) pair)
@@ -217,9 +218,9 @@ nonce_refused kept old c choice digits refusal (Drawn nonce may) rule reaction s
 -- a nonce was drawn, and sent
 pub nonce_sent : (kept : FullRecord) (old : State) (c : PlainCommand) (choice : PlainChoice) (refusal : Option ℕ) (end : NonceEnd refusal) (sent : PlainNonceSent) (bytes : List ℕ) (reaction : Reaction) (said : PlainReply)
     → old.phase ≡ Chose choice → bytes_eq c.body no_data ≡ true → refusal ≡ start_refusal kept.fields choice.password (was_with is_can old.pace)
-    → Ok (sent, bytes) ≡ nonce_given choice (digits_of kept.fields choice.password) refusal end → WentOn reaction said old (Some MapNonce) (SentNonce sent) (data_alone (authentication_data 0x80 bytes))
+    → Ok (sent, bytes) ≡ nonce_given choice (digits_of kept.fields choice.password) refusal end → WentOn reaction said old (Some MapNonce) (SentNonce sent) NotBegun (data_alone (authentication_data 0x80 bytes))
     → IsAnsweredByKind EncryptedNonce kept old c (nonce_asks refusal end) reaction said
-unfolding entered StartsWell
+unfolding entered claimed StartsWell
 nonce_sent kept old c choice refusal (NotStarted n is) sent bytes reaction said at body by e h = absurd cc
 nonce_sent kept old c choice refusal (NoNonce may) sent bytes reaction said at body by e h = absurd cc
 nonce_sent kept old c choice refusal (Drawn nonce may) sent bytes reaction said at body by e h =
@@ -229,12 +230,12 @@ nonce_sent kept old c choice refusal (Drawn nonce may) sent bytes reaction said 
     record {
       asked = (rw (body, at, well.0, well.1, well.2) refl, refl, rw (body, at, well.0, well.1, well.2) refl);
       ended = rw (body, at, well.0, well.1, well.2) (outcome_is 0 _ reaction said h.rule (h.answered ∙ ap (λ (b : List ℕ). data_alone (authentication_data 0x80 b)) parts.1));
-      left = h.state ∙ ap (λ (p : Phase). moved (Some MapNonce) p old) phase ∙ due kept.fields reaction.rule.0 EncryptedNonce c (answers.Nonce nonce ∷ []) old h.rule;
+      left = h.state ∙ ap (λ (p : Phase). moved (Some MapNonce) p NotBegun old) phase ∙ due kept.fields reaction.rule.0 EncryptedNonce c (answers.Nonce nonce ∷ []) old h.rule;
     }
 
 -- a pair was drawn, and the nonce mapped to a base
-pub mapped_to : (kept : FullRecord) (old : State) (c : PlainCommand) (sent : PlainNonceSent) (peer : List ℕ) (end : MapEnd) (mapped : PlainMapped) (public : List ℕ) (reaction : Reaction) (said : PlainReply) → old.phase ≡ SentNonce sent → peer ≡ data_in c.body → holds_point 0x81 c.body ≡ true → Ok (mapped, public) ≡ map_given sent end → WentOn reaction said old (Some PerformKeyAgreement) (HasBase mapped) (data_alone (authentication_data 0x82 public)) → IsAnsweredByKind MapNonce kept old c (map_asks sent peer end) reaction said
-unfolding entered
+pub mapped_to : (kept : FullRecord) (old : State) (c : PlainCommand) (sent : PlainNonceSent) (peer : List ℕ) (end : MapEnd) (mapped : PlainMapped) (public : List ℕ) (reaction : Reaction) (said : PlainReply) → old.phase ≡ SentNonce sent → peer ≡ data_in c.body → holds_point 0x81 c.body ≡ true → Ok (mapped, public) ≡ map_given sent end → WentOn reaction said old (Some PerformKeyAgreement) (HasBase mapped) NotBegun (data_alone (authentication_data 0x82 public)) → IsAnsweredByKind MapNonce kept old c (map_asks sent peer end) reaction said
+unfolding entered claimed
 mapped_to kept old c sent peer NoPair mapped public reaction said at is body e h = absurd cc
 mapped_to kept old c sent peer (NoMapping secret own) mapped public reaction said at is body e h = absurd cc
 mapped_to kept old c sent peer (NoBase secret own) mapped public reaction said at is body e h = absurd cc
@@ -245,12 +246,12 @@ mapped_to kept old c sent peer (Based secret own base) mapped public reaction sa
     record {
       asked = (rw (body, at) refl, refl, (rw (body, at, is) refl, refl, rw (body, at) refl));
       ended = rw body (outcome_is 0 _ reaction said h.rule (h.answered ∙ ap (λ (b : List ℕ). data_alone (authentication_data 0x82 b)) parts.1));
-      left = h.state ∙ ap (λ (p : Phase). moved (Some PerformKeyAgreement) p old) phase ∙ due kept.fields reaction.rule.0 MapNonce c given old h.rule;
+      left = h.state ∙ ap (λ (p : Phase). moved (Some PerformKeyAgreement) p NotBegun old) phase ∙ due kept.fields reaction.rule.0 MapNonce c given old h.rule;
     }
 
 -- a pair was drawn over the base, and a secret agreed
-pub agreed_on : (kept : FullRecord) (old : State) (c : PlainCommand) (mapped : PlainMapped) (peer : List ℕ) (end : AgreeEnd peer) (agreed : PlainAgreed) (public : List ℕ) (reaction : Reaction) (said : PlainReply) → old.phase ≡ HasBase mapped → peer ≡ data_in c.body → holds_point 0x83 c.body ≡ true → Ok (agreed, public) ≡ agree_given mapped peer end → WentOn reaction said old (Some MutualAuthentication) (HasSecret agreed) (data_alone (authentication_data 0x84 public)) → IsAnsweredByKind PerformKeyAgreement kept old c (agree_asks mapped peer end) reaction said
-unfolding entered
+pub agreed_on : (kept : FullRecord) (old : State) (c : PlainCommand) (mapped : PlainMapped) (peer : List ℕ) (end : AgreeEnd peer) (agreed : PlainAgreed) (public : List ℕ) (reaction : Reaction) (said : PlainReply) → old.phase ≡ HasBase mapped → peer ≡ data_in c.body → holds_point 0x83 c.body ≡ true → Ok (agreed, public) ≡ agree_given mapped peer end → WentOn reaction said old (Some MutualAuthentication) (HasSecret agreed) NotBegun (data_alone (authentication_data 0x84 public)) → IsAnsweredByKind PerformKeyAgreement kept old c (agree_asks mapped peer end) reaction said
+unfolding entered claimed
 agreed_on kept old c mapped peer agree.NoPair agreed public reaction said at is body e h = absurd cc
 agreed_on kept old c mapped peer (agree.SamePoint secret own same) agreed public reaction said at is body e h = absurd cc
 agreed_on kept old c mapped peer (agree.NoAgreement secret own other) agreed public reaction said at is body e h = absurd cc
@@ -262,7 +263,7 @@ agreed_on kept old c mapped peer (agree.Shared secret own shared other) agreed p
     record {
       asked = (rw (body, at) refl, refl, (rw (body, at, ← is, other) refl, refl, rw (body, at, ← is, other) refl));
       ended = rw (body, ← is, other) (outcome_is 0 _ reaction said h.rule (h.answered ∙ ap (λ (b : List ℕ). data_alone (authentication_data 0x84 b)) parts.1));
-      left = h.state ∙ ap (λ (p : Phase). moved (Some MutualAuthentication) p old) phase ∙ due kept.fields reaction.rule.0 PerformKeyAgreement c given old h.rule;
+      left = h.state ∙ ap (λ (p : Phase). moved (Some MutualAuthentication) p NotBegun old) phase ∙ due kept.fields reaction.rule.0 PerformKeyAgreement c given old h.rule;
     }
 
 pub token_parts : (b : Bool) (done given : PlainDone) (own sent : List ℕ) (rule : ℕ) → ◌≡◌ {A = Result (PlainDone × List ℕ) ℕ} (Ok (done, own)) (if b then Ok (given, sent) else Err rule) → (b ≡ true) × (done ≡ given) × (own ≡ sent)
@@ -276,9 +277,9 @@ last_data kept own = object 0x7C (object 0x86 own ++ object 0x87 kept.fields.cur
 -- the terminal's token was right, and a channel was opened
 pub authenticated : (kept : FullRecord) (old : State) (c : PlainCommand) (agreed : PlainAgreed) (sent : List ℕ) (done : PlainDone) (own : List ℕ) (reaction : Reaction) (said : PlainReply) → old.phase ≡ HasSecret agreed → sent ≡ data_in c.body → holds_value 0x85 8 c.body ≡ true → Ok (done, own) ≡ check_given agreed sent → reaction.rule.0 ≡ 0 → said ≡ data_alone (last_data kept own)
     → is_pin agreed.choice.password ≡ false
-    → state_left reaction old.channel ≡ record (without_run old) { pace = Some (memory_of done); certificates = no_chain; channel = Some (channel_after 0 (keys_of done)) }
+    → state_left reaction old.channel ≡ record (without_run old) { pace = Some (memory_of done); certificates = no_chain; terminal = None; chip_proven = false; channel = Some (channel_after 0 (keys_of done)) }
     → IsAnsweredByKind MutualAuthentication kept old c [] reaction said
-unfolding entered
+unfolding entered claimed
 authenticated kept old c agreed sent done own reaction said at is body e rule answer other left =
     let parts = token_parts (bytes_eq sent (terminal_token agreed)) done (done_by agreed) own (chip_token agreed) token_rule e in
     let right : bytes_eq (data_in c.body) (terminal_token agreed) ≡ true = rw (← is) parts.0 in

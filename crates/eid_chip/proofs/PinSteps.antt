@@ -27,7 +27,7 @@ use Rattle.eid_model.specs.Bodies.{data_in, holds_value}
 use Rattle.eid_model.specs.Rules.{RuleRow, LAST_NUMBER, kind_rules, answer_rules, commit_rules, proof_rules, first_failed, token_effects, token_status, to_commit, Situation}
 use Rattle.eid_cvc.specs.Chains.{PlainChain}
 use Rattle.eid_copro.specs.declared.ask.Ask.{Ask}
-use Rattle.eid_model.specs.Runs.{answers_of, entered}
+use Rattle.eid_model.specs.Runs.{answers_of, entered, claimed}
 use Rattle.eid_model.specs.Sessions.{State}
 use Rattle.eid_chip.specs.Commits.{WasCutBehind}
 use Rattle.eid_chip.specs.Held.{held}
@@ -111,7 +111,7 @@ pub pin_was_right : (agreed : Agreed) (memory : Memory) (channel : Option Channe
     → Has 2 (committed Refill (committed Spend (held cells))) device next now cells_now
     → done ≡ done_by (agreed_view agreed) → r.rule.0 ≡ 0 → reply ≡ data_alone (last_data (held cells) (chip_token (agreed_view agreed))) → state_left r channel ≡ state_with_pace memory done
     → IsEndedByKind MutualAuthentication (state (at_tokens agreed memory) channel) c [] (Answered r 2) reply (world copro store device cells) (world copro next now cells_now)
-unfolding entered
+unfolding entered claimed
 pin_was_right agreed memory channel c token done r reply copro store next device now cells cells_now sends pin fits was_right has is rule answered left =
     let right : bytes_eq (data_in c.body) (terminal_token (agreed_view agreed)) ≡ true = rw (← sends.is) was_right in
     let number = within _ fits in

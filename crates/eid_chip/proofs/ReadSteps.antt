@@ -6,7 +6,7 @@ use Rattle.eid_apdu.specs.Command.{PlainCommand}
 use Rattle.eid_record.specs.Plain.{FullRecord}
 use Rattle.eid_model.specs.declared.kind.Kind.TheVariants.{ReadBinary}
 use Rattle.eid_model.specs.Kinds.{is_by_short, file_of_short}
-use Rattle.eid_model.specs.Runs.{entered}
+use Rattle.eid_model.specs.Runs.{entered, claimed}
 use Rattle.eid_model.specs.Sessions.{State}
 use Rattle.eid_model.specs.Rules.{kind_rules, answer_rules, commit_rules, proof_rules, first_failed, file_meant, bytes_of_file, offset_meant, is_card_access}
 use Rattle.eid_model.specs.Answers.{read_reply, success_of}
@@ -39,6 +39,6 @@ current_by false short current file e = refl
 
 -- the file is current afterwards
 pub read_leaves : (kept : FullRecord) (old : State) (c : PlainCommand) (file : ℕ) → file_meant (known ReadBinary kept old c []) ≡ Some file → record (state_refused old) { current = if is_by_short c then Some file else old.current } ≡ state_carried_out kept.fields ReadBinary c [] old
-unfolding entered file_meant
+unfolding entered claimed file_meant
 read_leaves kept old c file meant =
     ap (λ (o : Option ℕ). record (state_refused old) { current = o }) (current_by (is_by_short c) (file_of_short (c.p1 - 0x80)) old.current file meant)

@@ -7,7 +7,7 @@ use Rattle.eid_apdu.specs.Command.{PlainCommand}
 use Rattle.eid_record.specs.Plain.{FullRecord, PlainRecord}
 use Rattle.eid_model.specs.declared.kind.Kind.TheVariants.{SelectApplication, SelectMasterFile, SelectFile}
 use Rattle.eid_model.specs.Kinds.{application_id, file_of_id}
-use Rattle.eid_model.specs.Runs.{entered}
+use Rattle.eid_model.specs.Runs.{entered, claimed}
 use Rattle.eid_model.specs.Sessions.{State, number_of_two}
 use Rattle.eid_model.specs.Rules.{kind_rules, answer_rules, commit_rules, proof_rules, first_failed}
 use Rattle.eid_chip.specs.Transitions.{state_carried_out, state_refused}
@@ -45,15 +45,15 @@ file_passes kept old c file two named = rw (two, named) refl
 
 -- what they leave
 pub application_leaves : (kept : PlainRecord) (old : State) (c : PlainCommand) → record (state_refused old) { selected = true; current = None } ≡ state_carried_out kept SelectApplication c [] old
-unfolding entered
+unfolding entered claimed
 application_leaves kept old c = refl
 
 pub master_file_leaves : (kept : PlainRecord) (old : State) (c : PlainCommand) → record (state_refused old) { selected = false; current = None } ≡ state_carried_out kept SelectMasterFile c [] old
-unfolding entered
+unfolding entered claimed
 master_file_leaves kept old c = refl
 
 pub file_leaves : (kept : PlainRecord) (old : State) (c : PlainCommand) (file : ℕ) → file_of_id (number_of_two c.body) ≡ Some file → record (state_refused old) { current = Some file } ≡ state_carried_out kept SelectFile c [] old
-unfolding entered
+unfolding entered claimed
 file_leaves kept old c file named = rw named refl
 
 pub some_after : {A B : Type 0} (f : A → B) (o : Option A) → is_some (option_map f o) ≡ is_some o

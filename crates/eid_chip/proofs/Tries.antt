@@ -45,6 +45,9 @@ phase_tries (runs.NonceSent sent) = refl
 phase_tries (runs.Mapped mapped) = refl
 phase_tries (runs.Agreed agreed) = refl
 phase_tries (runs.KeyChosen name) = refl
+phase_tries (runs.Announced identity announced) = refl
+phase_tries (runs.Challenged identity challenged) = refl
+phase_tries (runs.CaChosen chosen) = refl
 
 -- What was answered where the PACE goes on: a request was carried out that goes on, or a fragment taken.
 record Continued (rule : ℕ) (kind : Option Kind) (before : Phase) : Type 0 where

@@ -1,31 +1,44 @@
 -- Inside: cited by private contracts alone.
 -- What naming a command gives.
-use Rattle.std.specs.Prelude.{◌≡◌, ◌==◌, true, false, List, Some, None, Result, IfOk, IfErr, OnOk}
+use Rattle.std.specs.Prelude.{◌≡◌, ◌==◌, ℕ, true, false, List, Some, None, is_some, if◌then◌else◌, Result, IfOk, IfErr, OnOk}
 use Rattle.eid_apdu.specs.Command.{PlainCommand}
 use Rattle.eid_apdu.specs.Chaining.{is_fragment}
 use Rattle.eid_copro.specs.declared.ask.Answer.{Answer}
 use Rattle.eid_record.specs.Plain.{FullRecord}
+use Rattle.eid_ca.specs.Selections.{chosen_in}
 use Rattle.eid_model.specs.declared.kind.Kind.{Kind}
+use Rattle.eid_model.specs.declared.kind.Kind.TheVariants.{SelectChipAuthentication, NoProtocol}
 use Rattle.eid_model.specs.Kinds.{goes_on_in_run, kind_named}
 use Rattle.eid_model.specs.Moments.{ends_session_by}
 use Rattle.eid_model.specs.Rules.{naming_rules}
 use Rattle.eid_model.specs.Sessions.{State}
 use Rattle.eid_chip.specs.declared.naming.Named.{Named}
-use Rattle.eid_chip.specs.declared.naming.Named.TheVariants.{Fragment, Last}
+use Rattle.eid_chip.specs.declared.naming.Named.TheVariants.{Fragment, Ends}
+use Rattle.eid_chip.specs.declared.naming.Last.{Last}
+use Rattle.eid_chip.specs.declared.naming.Last.TheVariants.{Of, ByProtocol}
 use Rattle.eid_chip.specs.declared.refusal.Refusal.{Refusal}
 use Rattle.eid_chip.specs.declared.session.Run.{Run}
 use Rattle.eid_chip.specs.States.{next_of}
 use Rattle.eid_chip.specs.Steps.{refusal, refusal_by, with_command}
 
--- the command ends a request of this kind where the run stands, and it is the run's turn for it
-pub record IsLast (run : Run) (c : PlainCommand) (kind : Kind) : Type 0 where
+-- the kind of a request with this body
+abbrev pub kind_by : Last → List ℕ → Kind
+kind_by (Of kind) body = kind
+kind_by ByProtocol body = if is_some (chosen_in body) then SelectChipAuthentication else NoProtocol
+
+-- the command with this body
+abbrev pub with_body : PlainCommand → List ℕ → PlainCommand
+with_body c body = record c { body = body }
+
+-- the command ends a request, whose kind where the run stands is so determined, and it is the run's turn for it
+pub record IsLast (run : Run) (c : PlainCommand) (last : Last) : Type 0 where
   pub whole : is_fragment c ≡ false
-  pub kind_is : kind_named (next_of run) c ≡ Some kind
-  pub turn : goes_on_in_run kind ≡ true → next_of run ≡ Some kind
+  pub kind_is : (body : List ℕ) → kind_named (next_of run) (with_body c body) ≡ Some (kind_by last body)
+  pub turn : (body : List ℕ) → goes_on_in_run (kind_by last body) ≡ true → next_of run ≡ Some (kind_by last body)
 
 abbrev pub IsNamedAs : Run → PlainCommand → Named → Type 0
 IsNamedAs run c Fragment = is_fragment c ≡ true
-IsNamedAs run c (Last kind) = IsLast run c kind
+IsNamedAs run c (Ends last) = IsLast run c last
 
 -- class, instruction and parameters are those of some kind
 abbrev pub Passes : PlainCommand → Type 0

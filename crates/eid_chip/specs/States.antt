@@ -2,12 +2,14 @@
 use Rattle.std.specs.Prelude.{Option, Some, None, option_map}
 use Rattle.eid_apdu.specs.Chaining.{OpenChain}
 use Rattle.eid_bits.specs.Template.{template_bytes}
-use Rattle.eid_cvc.specs.Chains.{chain_view}
+use Rattle.eid_cvc.specs.Chains.{chain_view, known_view}
 use Rattle.eid_pace.specs.View.{chosen_view, nonce_sent_view, mapped_view, agreed_view}
 use Rattle.eid_sm.specs.Keys.{ChannelState}
 use Rattle.eid_model.specs.declared.kind.Kind.{Kind}
-use Rattle.eid_model.specs.declared.kind.Kind.TheVariants.{VerifyCertificate, EncryptedNonce, MapNonce, PerformKeyAgreement, MutualAuthentication}
-use Rattle.eid_model.specs.Runs.{Phase, Idle, Chose, SentNonce, HasBase, HasSecret, ChoseKey}
+use Rattle.eid_model.specs.declared.kind.Kind.TheVariants.{VerifyCertificate, GetChallenge, ExternalAuthenticate, EncryptedNonce, MapNonce, PerformKeyAgreement, MutualAuthentication, AuthenticateChip}
+use Rattle.eid_ta.specs.View.{announced_view, challenged_view}
+use Rattle.eid_ca.specs.View.{chosen_view as chip_chosen_view}
+use Rattle.eid_model.specs.Runs.{Phase, Idle, Chose, SentNonce, HasBase, HasSecret, ChoseKey, Authentication, NotBegun, Announced, Challenged, ChoseProtocol}
 use Rattle.eid_model.specs.Sessions.{State, PaceMemory}
 use Rattle.eid_chip.specs.declared.session.Run.{Run}
 use Rattle.eid_chip.specs.declared.session.Run.TheVariants as runs
@@ -24,6 +26,9 @@ next_of (runs.NonceSent sent) = Some MapNonce
 next_of (runs.Mapped mapped) = Some PerformKeyAgreement
 next_of (runs.Agreed agreed) = Some MutualAuthentication
 next_of (runs.KeyChosen name) = Some VerifyCertificate
+next_of (runs.Announced identity announced) = Some GetChallenge
+next_of (runs.Challenged identity challenged) = Some ExternalAuthenticate
+next_of (runs.CaChosen chosen) = Some AuthenticateChip
 
 abbrev pub phase_of : Run → Phase
 phase_of runs.Idle = Idle
@@ -32,6 +37,20 @@ phase_of (runs.NonceSent sent) = SentNonce (nonce_sent_view sent)
 phase_of (runs.Mapped mapped) = HasBase (mapped_view mapped)
 phase_of (runs.Agreed agreed) = HasSecret (agreed_view agreed)
 phase_of (runs.KeyChosen name) = ChoseKey name.items
+phase_of (runs.Announced identity announced) = Idle
+phase_of (runs.Challenged identity challenged) = Idle
+phase_of (runs.CaChosen chosen) = Idle
+
+abbrev pub authentication_of : Run → Authentication
+authentication_of runs.Idle = NotBegun
+authentication_of (runs.Chosen chosen) = NotBegun
+authentication_of (runs.NonceSent sent) = NotBegun
+authentication_of (runs.Mapped mapped) = NotBegun
+authentication_of (runs.Agreed agreed) = NotBegun
+authentication_of (runs.KeyChosen name) = NotBegun
+authentication_of (runs.Announced identity announced) = Announced identity (announced_view announced)
+authentication_of (runs.Challenged identity challenged) = Challenged identity (challenged_view challenged)
+authentication_of (runs.CaChosen chosen) = ChoseProtocol (chip_chosen_view chosen)
 
 -- what is kept of a PACE
 abbrev pub memory : LastPace → PaceMemory
@@ -42,10 +61,13 @@ abbrev pub state : Session → Option ChannelState → State
 state s channel = record {
   next = next_of s.run;
   phase = phase_of s.run;
+  authentication = authentication_of s.run;
   selected = s.memory.selected;
   current = option_map (λ file. file.0) s.memory.current;
   pace = option_map memory s.memory.pace;
   certificates = chain_view s.memory.certificates;
+  terminal = option_map known_view s.memory.terminal;
+  chip_proven = s.memory.chip_proven;
   channel = channel;
   chaining = None;
 }

@@ -1,7 +1,7 @@
 -- Inside: cited by private contracts alone.
 -- What one step of the chip promises: the questions that it puts, the outcome by the rules, and what the session is
 -- after it.
-use Rattle.std.specs.Prelude.{◌≡◌, ℕ, ◌<◌, ◌==◌, ◌||◌, true, List, [], ◌∷◌, ◌++◌, length, Option, Some, None, option_map, Ok, if◌then◌else◌}
+use Rattle.std.specs.Prelude.{◌≡◌, ℕ, ◌<◌, ◌==◌, ◌||◌, true, false, List, [], ◌∷◌, ◌++◌, length, Option, Some, None, option_map, Ok, if◌then◌else◌}
 use Rattle.std.specs.Option.{option_or}
 use Rattle.eid_apdu.specs.Command.{PlainCommand}
 use Rattle.eid_apdu.specs.Chaining.{OpenChain}
@@ -19,7 +19,7 @@ use Rattle.eid_record.specs.Plain.{FullRecord, PlainEffect}
 use Rattle.eid_copro.specs.Asking.{WereAsked}
 use Rattle.eid_password.specs.Passwords.{active_rule, try_rule, resumed_rule}
 use Rattle.eid_pace.specs.Rules.{fault_rule}
-use Rattle.eid_sm.specs.Keys.{ChannelState, advanced, next_counter}
+use Rattle.eid_sm.specs.Keys.{ChannelState, Keys, advanced, next_counter}
 use Rattle.eid_sm.specs.Replies.{sealed}
 use Rattle.eid_model.specs.declared.kind.Kind.{Kind}
 use Rattle.eid_model.specs.Moments.{ends_session_by}
@@ -35,6 +35,7 @@ use Rattle.eid_chip.specs.declared.session.Session.{Session}
 use Rattle.eid_chip.specs.declared.session.Memory.{Memory}
 use Rattle.eid_chip.specs.declared.session.Run.TheVariants as runs
 use Rattle.eid_pace.specs.States.{PlainDone}
+use Rattle.eid_ca.specs.States.{PlainProven}
 use Rattle.eid_cvc.specs.Chains.{PlainChain, no_chain}
 use Rattle.eid_pace.specs.declared.agreed.Agreed.{Agreed}
 use Rattle.eid_chip.specs.States.{chained, state}
@@ -163,18 +164,30 @@ pub record SendsToken (c : PlainCommand) (token : List ℕ) : Type 0 where
 abbrev pub at_tokens : Agreed → Memory → Session
 at_tokens agreed memory = record { run = runs.Agreed agreed; memory = memory }
 
+-- the keys that a chip authentication leaves
+abbrev pub chip_keys : PlainProven → Keys
+chip_keys proven = record { enc = proven.enc; mac = proven.mac }
+
 -- the state after a PACE, in the channel that it opened
 abbrev pub state_with_pace : Memory → PlainDone → State
 state_with_pace old done = record {
   next = None;
   phase = phases.Idle;
+  authentication = phases.NotBegun;
   selected = old.selected;
   current = option_map (λ file. file.0) old.current;
   pace = Some (memory_of done);
   certificates = no_chain;
+  terminal = None;
+  chip_proven = false;
   channel = Some (channel_after 0 (keys_of done));
   chaining = None;
 }
+
+-- the state after a chip authentication, in the channel that it opened
+abbrev pub state_with_chip : Memory → PlainProven → State
+state_with_chip old proven =
+    record (state (record { run = runs.Idle; memory = old }) None) { chip_proven = true; channel = Some (channel_after 0 (chip_keys proven)) }
 
 -- and so in any channel, with the questions by which the coprocessor's log grew
 pub record Performed (kind : Kind) (session : Session) (c : PlainCommand) (ending : Ending) (reply : PlainReply) (before after : World) : Type 0 where

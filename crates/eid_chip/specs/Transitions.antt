@@ -15,8 +15,8 @@ use Rattle.eid_pace.specs.States.{PlainDone}
 use Rattle.eid_sm.specs.Keys.{ChannelState, next_counter}
 use Rattle.eid_model.specs.declared.kind.Kind.{Kind}
 use Rattle.eid_model.specs.Kinds.{step_after}
-use Rattle.eid_model.specs.Runs.{Idle, entered, is_piece_of_next}
-use Rattle.eid_model.specs.Sessions.{State, unchained, selects, names, pace_done, accepts, memory_of, keys_of, channel_after}
+use Rattle.eid_model.specs.Runs.{Idle, entered, is_piece_of_next, Context, NotBegun, claimed}
+use Rattle.eid_model.specs.Sessions.{State, unchained, selects, names, pace_done, accepts, memory_of, keys_by, channel_after, terminal_behind, makes_known, proves_chip}
 
 -- a command and its reply raise the send sequence counter twice
 abbrev pub two_messages_later : ChannelState → ChannelState
@@ -28,16 +28,23 @@ chain_behind kept None None chain = chain
 chain_behind kept None (Some certificate) chain = certificates_after kept chain certificate
 chain_behind kept (Some done) certificate chain = no_chain
 
+-- what terminal and chip authentication find in a state
+abbrev pub context_in : State → Context
+context_in s = record { identity = option_map (λ pace. pace.identity) s.pace; certificates = s.certificates; terminal = s.terminal }
+
 -- the state after a command of this kind was carried out, with these answers of the coprocessor
 abbrev pub state_carried_out : PlainRecord → Kind → PlainCommand → List Answer → State → State
 state_carried_out kept kind c answers old = record {
   next = step_after kind;
   phase = entered kind c answers old.phase;
+  authentication = claimed kind c answers (context_in old) old.authentication;
   selected = unwrap_or (selects kind) old.selected;
   current = if is_some (selects kind) then None else option_or (names kind c) old.current;
   pace = option_or (option_map memory_of (pace_done kind old.phase)) old.pace;
   certificates = chain_behind kept (pace_done kind old.phase) (accepts kind c) old.certificates;
-  channel = option_or (option_map (channel_after 0) (option_map keys_of (pace_done kind old.phase))) (option_map two_messages_later old.channel);
+  terminal = terminal_behind (pace_done kind old.phase) (makes_known kind old.authentication) old.terminal;
+  chip_proven = unwrap_or (proves_chip kind) old.chip_proven;
+  channel = option_or (option_map (channel_after 0) (keys_by kind answers old.phase)) (option_map two_messages_later old.channel);
   chaining = None;
 }
 
@@ -47,7 +54,7 @@ state_later old = record old { channel = option_map two_messages_later old.chann
 
 -- the state without a run, and without fragments
 abbrev pub without_run : State → State
-without_run s = record s { next = None; phase = Idle; chaining = None }
+without_run s = record s { next = None; phase = Idle; authentication = NotBegun; chaining = None }
 
 -- the state after a command that was refused, and did not end the session
 abbrev pub state_refused : State → State

@@ -15,6 +15,9 @@ tries_pin (runs.NonceSent sent) = is_pin (nonce_sent_view sent).choice.password
 tries_pin (runs.Mapped mapped) = is_pin (mapped_view mapped).choice.password
 tries_pin (runs.Agreed agreed) = is_pin (agreed_view agreed).choice.password
 tries_pin (runs.KeyChosen name) = false
+tries_pin (runs.Announced identity announced) = false
+tries_pin (runs.Challenged identity challenged) = false
+tries_pin (runs.CaChosen chosen) = false
 
 -- where it has, a try is left
 abbrev pub IsTryLeft : Run → PlainRecord → Type 0

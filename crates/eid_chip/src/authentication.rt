@@ -81,6 +81,17 @@ pub fn append<const N: usize>(out: &mut ArrayVec<u8, N>, tag: u16, value: &[u8])
     put(out, tag, value).unwrap();
 }
 
+/// Makes the reply one of 9000 with these data.
+pub fn put_plain(content: &[u8], reply: &mut Reply)
+    requires { length content.now ≤ 200 }
+    ensures plain { plain_reply reply.new ≡ data_alone content.now }
+    ensures small { array_vec_len reply.new.content ≤ 2048 }
+{
+    reply.content.clear();
+    reply.content.try_extend_from_slice(content).unwrap();
+    reply.status = Status(0x9000);
+}
+
 /// Makes the reply one of 9000 with this in 7C.
 pub fn put_in_data(inner: &[u8], reply: &mut Reply)
     requires { length inner.now ≤ 200 }

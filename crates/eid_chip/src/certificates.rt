@@ -25,7 +25,8 @@ use crate::ending::{carried_out, refused, uncommitted};
 use crate::pin::commit_one;
 use crate::reaction::{Ending, Reaction};
 use crate::refusal::{
-    BODY_FORM, FAULT, NO_PACE, NO_STEP, NO_TEMPLATE, UNKNOWN_KEY, WRONG_SIGNATURE, bad_certificate,
+    BODY_FORM, FAULT, NO_PACE, NO_STEP, NO_TEMPLATE, TERMINAL_IS_KNOWN, UNKNOWN_KEY,
+    WRONG_SIGNATURE, bad_certificate,
 };
 use crate::session::{MAX_NAME, Run, Session};
 use arrayvec::ArrayVec;
@@ -58,7 +59,7 @@ fn key_name(body: &[u8]) -> Option<&[u8]>
 }
 
 /// MSE:Set DST: a run begins with the name of the public key that is to verify a certificate. Rule 10 is a body of another
-/// form, rule 20 that there is no PACE, rule 21 that it had no template, rule 23 that neither a trust point nor the document
+/// form, rule 20 that there is no PACE, rule 21 that it had no template, rule 22 that a terminal has authenticated itself, rule 23 that neither a trust point nor the document
 /// verifier accepted last has this name.
 pub fn select_public_key(
     session: Session,
@@ -78,6 +79,9 @@ pub fn select_public_key(
     };
     if pace.template.is_none() {
         return refused(NO_TEMPLATE, session, reply);
+    }
+    if session.memory.terminal.is_some() {
+        return refused(TERMINAL_IS_KNOWN, session, reply);
     }
     let None = signer(kept, &session.memory.certificates, name) else {
         let mut chosen = ArrayVec::new();

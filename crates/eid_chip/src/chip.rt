@@ -29,18 +29,22 @@ ghost use Rattle.eid_chip.specs.Steps.{Performed, Reacts, Responds, message_in, 
 ghost use Rattle.eid_chip.specs.Fits.{plain_in};
 
 use crate::certificates::{select_public_key, verify_certificate};
+use crate::chip_authentication::{authenticate_chip, select_chip_authentication};
 use crate::ending::{carried_out, ends_session, refused, uncommitted};
 use crate::exchange::{Exchange, Handled, HandledIn};
-use crate::naming::{Named, name_command};
+use crate::naming::{Last, Named, kind_of, name_command};
 use crate::pace::{
     encrypted_nonce, map_nonce, mutual_authentication, perform_key_agreement, select_pace,
 };
 use crate::pin::{change_pin, unblock_pin};
 use crate::reaction::{Ending, Reaction, Response};
-use crate::refusal::{BROKEN_CHAIN, LONG_REQUEST, NO_COMMAND, NO_OBJECTS, NO_STEP, WRONG_OBJECTS};
+use crate::refusal::{
+    BODY_FORM, BROKEN_CHAIN, LONG_REQUEST, NO_COMMAND, NO_OBJECTS, NO_STEP, WRONG_OBJECTS,
+};
 use crate::running::Running;
 use crate::select::{read_binary, select_application, select_file, select_master_file};
 use crate::session::{Run, Session};
+use crate::terminal::{announce_terminal, external_authenticate, get_challenge};
 use arrayvec::ArrayVec;
 use eid_apdu::{Chain, Command, Fed, MAX_REQUEST, Reply, read_command, write_reply};
 use eid_base::Rule;
@@ -81,6 +85,7 @@ fn perform<E: Eeprom, C: Coprocessor>(
     requires mounted { IsMounted (world (C.seen copro.old) store.old (E.device cells.old) (E.cells cells.old)) }
     requires room { 2 ≤ (C.seen copro.old).spare }
     requires turn { goes_on_in_run kind ≡ true → next_of session.run ≡ Some kind }
+    requires short { length c.now.body.now ≤ 2048 }
     requires try_left { IsTryLeft session.run (stored.fields_of store.old) }
     ensures performed { Performed kind session (plain_command c.now) result (plain_reply reply.new)
         (world (C.seen copro.old) store.old (E.device cells.old) (E.cells cells.old))
@@ -95,6 +100,14 @@ fn perform<E: Eeprom, C: Coprocessor>(
         Kind::SelectPace => uncommitted(select_pace(session, store.kept(), c, reply)),
         Kind::SelectPublicKey => { uncommitted(select_public_key(session, store.kept(), c, reply)) }
         Kind::VerifyCertificate => verify_certificate(session, store, cells, copro, c, reply),
+        Kind::AnnounceTerminal => uncommitted(announce_terminal(session, c, reply)),
+        Kind::GetChallenge => uncommitted(get_challenge(session, copro, c, reply)),
+        Kind::ExternalAuthenticate => {
+            uncommitted(external_authenticate(session, copro, c, reply))
+        }
+        Kind::SelectChipAuthentication => {
+            uncommitted(select_chip_authentication(session, c, reply))
+        }
         Kind::EncryptedNonce => {
             uncommitted(encrypted_nonce(session, store, cells, copro, c, reply))
         }
@@ -103,8 +116,12 @@ fn perform<E: Eeprom, C: Coprocessor>(
             uncommitted(perform_key_agreement(session, copro, c, reply))
         }
         Kind::MutualAuthentication => mutual_authentication(session, store, cells, c, reply),
+        Kind::AuthenticateChip => {
+            uncommitted(authenticate_chip(session, store.kept(), copro, c, reply))
+        }
         Kind::ChangePin => change_pin(session, store, cells, c, reply),
         Kind::UnblockPin => unblock_pin(session, store, cells, c, reply),
+        Kind::NoProtocol => uncommitted(refused(BODY_FORM, session, reply)),
         Kind::NoStep => uncommitted(refused(NO_STEP, session, reply)),
     }
 }
@@ -134,6 +151,9 @@ fn is_piece_of_next(run: &Run, c: &Command<'_>) -> bool
         Run::NonceSent(_) => false,
         Run::Mapped(_) => false,
         Run::Agreed(_) => false,
+        Run::Announced { .. } => false,
+        Run::Challenged { .. } => false,
+        Run::CaChosen(_) => false,
         Run::KeyChosen(_) => c.ins == 0x2a && u16::from(c.p1) * 256 + u16::from(c.p2) == 0x00be,
     }
 }
@@ -173,10 +193,10 @@ fn take_fragment(
     }
 }
 
-/// Answers the last command of a request of this kind that was begun in fragments. Rule 7 is that it does not go on with
+/// Answers the last command of a request that was begun in fragments. Rule 7 is that it does not go on with
 /// them, rule 8 that the request is too long.
 fn end_chain<E: Eeprom, C: Coprocessor>(
-    kind: Kind,
+    last: Last,
     session: Session,
     chain: &mut Chain<MAX_REQUEST>,
     store: &mut Store,
@@ -187,7 +207,7 @@ fn end_chain<E: Eeprom, C: Coprocessor>(
 ) -> Ending
     requires mounted { IsMounted (world (C.seen copro.old) store.old (E.device cells.old) (E.cells cells.old)) }
     requires room { 2 ≤ (C.seen copro.old).spare }
-    requires last { IsLast session.run (plain_command c.now) kind }
+    requires last { IsLast session.run (plain_command c.now) last }
     requires passes { Passes (plain_command c.now) }
     requires try_left { IsTryLeft session.run (stored.fields_of store.old) }
     ensures reacts { Reacts session chain.old.pending (plain_command c.now) result (plain_reply reply.new) chain.new.pending
@@ -198,6 +218,7 @@ fn end_chain<E: Eeprom, C: Coprocessor>(
     match chain.feed(c) {
         Fed::Whole => {
             let request = whole_request(c, chain.body());
+            let kind = kind_of(last, request.body);
             perform(kind, session, store, cells, copro, &request, reply)
         }
         Fed::Broken => uncommitted(refused(BROKEN_CHAIN, session, reply)),
@@ -206,10 +227,10 @@ fn end_chain<E: Eeprom, C: Coprocessor>(
     }
 }
 
-/// Answers the last command of a request of this kind. Where no chain is open it is the request, and nothing is copied;
+/// Answers the last command of a request. Where no chain is open it is the request, and nothing is copied;
 /// rule 8 is that it is too long.
 fn answer<E: Eeprom, C: Coprocessor>(
-    kind: Kind,
+    last: Last,
     session: Session,
     chain: &mut Chain<MAX_REQUEST>,
     store: &mut Store,
@@ -220,7 +241,7 @@ fn answer<E: Eeprom, C: Coprocessor>(
 ) -> Ending
     requires mounted { IsMounted (world (C.seen copro.old) store.old (E.device cells.old) (E.cells cells.old)) }
     requires room { 2 ≤ (C.seen copro.old).spare }
-    requires last { IsLast session.run (plain_command c.now) kind }
+    requires last { IsLast session.run (plain_command c.now) last }
     requires passes { Passes (plain_command c.now) }
     requires try_left { IsTryLeft session.run (stored.fields_of store.old) }
     ensures reacts { Reacts session chain.old.pending (plain_command c.now) result (plain_reply reply.new) chain.new.pending
@@ -229,11 +250,12 @@ fn answer<E: Eeprom, C: Coprocessor>(
     ensures small { array_vec_len reply.new.content ≤ 2048 }
 {
     if chain.is_open() {
-        return end_chain(kind, session, chain, store, cells, copro, c, reply);
+        return end_chain(last, session, chain, store, cells, copro, c, reply);
     }
     if c.body.len() > MAX_REQUEST {
         return uncommitted(refused(LONG_REQUEST, session, reply));
     }
+    let kind = kind_of(last, c.body);
     perform(kind, session, store, cells, copro, c, reply)
 }
 
@@ -257,7 +279,7 @@ fn react<E: Eeprom, C: Coprocessor>(
 {
     match name_command(c, &session.run) {
         Ok(Named::Fragment) => take_fragment(session, chain, c, reply),
-        Ok(Named::Last(kind)) => answer(kind, session, chain, store, cells, copro, c, reply),
+        Ok(Named::Ends(last)) => answer(last, session, chain, store, cells, copro, c, reply),
         Err(refusal) => {
             chain.close();
             uncommitted(refused(refusal, session, reply))

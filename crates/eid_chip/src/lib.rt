@@ -4,6 +4,7 @@
 mod authentication;
 mod certificates;
 mod chip;
+mod chip_authentication;
 mod ending;
 mod exchange;
 mod files;
@@ -15,6 +16,7 @@ mod refusal;
 mod running;
 mod select;
 mod session;
+mod terminal;
 
 pub use chip::Chip;
 pub use exchange::{Exchange, Handled, HandledIn};

@@ -1,14 +1,15 @@
 //! What a command is, by class, instruction and parameters, and where the run stands: a fragment, or the last command of a
 //! request of some kind.
-ghost use Rattle.std.specs.Prelude.{◌≡◌, true};
+ghost use Rattle.std.specs.Prelude.{◌≡◌, ℕ, List, true};
 ghost use Rattle.eid_apdu.specs.Command.{plain_command};
 ghost use Rattle.eid_model.specs.Kinds.{goes_on_in_run, kind_named};
 ghost use Rattle.eid_chip.specs.States.{next_of};
-ghost use Rattle.eid_chip.specs.Naming.{IsNamed};
+ghost use Rattle.eid_chip.specs.Naming.{IsNamed, kind_by, with_body};
 
 use crate::refusal::{CLASS, INSTRUCTION, PARAMETERS, Refusal};
 use crate::session::Run;
 use eid_apdu::Command;
+use eid_ca::names_chip_authentication;
 use eid_model::Kind;
 
 /// What a command is of its request.
@@ -16,8 +17,33 @@ use eid_model::Kind;
 pub enum Named {
     /// A fragment: further commands of the request follow.
     Fragment,
-    /// The last command of a request of this kind, or its only one.
-    Last(Kind),
+    /// The last command of a request, or its only one.
+    Ends(Last),
+}
+
+/// What kind the request is that a command ends.
+#[derive(Clone, Copy)]
+pub enum Last {
+    /// This one.
+    Of(Kind),
+    /// Chip authentication where the request names a protocol of it.
+    ByProtocol,
+}
+
+/// The kind of a request with this body.
+pub fn kind_of(last: Last, body: &[u8]) -> Kind
+    ensures { result ≡ kind_by last body.now }
+{
+    match last {
+        Last::Of(kind) => kind,
+        Last::ByProtocol => {
+            if names_chip_authentication(body) {
+                Kind::SelectChipAuthentication
+            } else {
+                Kind::NoProtocol
+            }
+        }
+    }
 }
 
 /// The kind of a SELECT, by its parameters.
@@ -27,9 +53,9 @@ fn selection(c: &Command<'_>, run: &Run) -> Result<Named, Refusal>
 {
     let _ = run;
     match u16::from(c.p1) * 256 + u16::from(c.p2) {
-        0x040c => Ok(Named::Last(Kind::SelectApplication)),
-        0x000c => Ok(Named::Last(Kind::SelectMasterFile)),
-        0x020c => Ok(Named::Last(Kind::SelectFile)),
+        0x040c => Ok(Named::Ends(Last::Of(Kind::SelectApplication))),
+        0x000c => Ok(Named::Ends(Last::Of(Kind::SelectMasterFile))),
+        0x020c => Ok(Named::Ends(Last::Of(Kind::SelectFile))),
         _ => Err(PARAMETERS),
     }
 }
@@ -41,8 +67,8 @@ fn pin_management(c: &Command<'_>, run: &Run) -> Result<Named, Refusal>
 {
     let _ = run;
     match u16::from(c.p1) * 256 + u16::from(c.p2) {
-        0x0203 => Ok(Named::Last(Kind::ChangePin)),
-        0x0303 => Ok(Named::Last(Kind::UnblockPin)),
+        0x0203 => Ok(Named::Ends(Last::Of(Kind::ChangePin))),
+        0x0303 => Ok(Named::Ends(Last::Of(Kind::UnblockPin))),
         _ => Err(PARAMETERS),
     }
 }
@@ -50,7 +76,7 @@ fn pin_management(c: &Command<'_>, run: &Run) -> Result<Named, Refusal>
 /// The kind of a GENERAL AUTHENTICATE with class 00: the last step of PACE, where it is next.
 fn last_step(c: &Command<'_>, run: &Run) -> Kind
     requires { (c.now.cla ≡ 0x00) × (c.now.ins ≡ 0x86) × (c.now.p1 ≡ 0) × (c.now.p2 ≡ 0) }
-    ensures named { kind_named (next_of run.now) (plain_command c.now) ≡ Some result }
+    ensures named { (body : List ℕ) → kind_named (next_of run.now) (with_body (plain_command c.now) body) ≡ Some result }
     ensures turn { goes_on_in_run result ≡ true → next_of run.now ≡ Some result }
 {
     let _ = c;
@@ -61,13 +87,16 @@ fn last_step(c: &Command<'_>, run: &Run) -> Kind
         Run::Mapped(_) => Kind::NoStep,
         Run::Agreed(_) => Kind::MutualAuthentication,
         Run::KeyChosen(_) => Kind::NoStep,
+        Run::Announced { .. } => Kind::NoStep,
+        Run::Challenged { .. } => Kind::NoStep,
+        Run::CaChosen(_) => Kind::AuthenticateChip,
     }
 }
 
 /// The kind of a GENERAL AUTHENTICATE with class 10: a step of PACE that is not the last, where it is next.
 fn inner_step(c: &Command<'_>, run: &Run) -> Kind
     requires { (c.now.cla ≡ 0x10) × (c.now.ins ≡ 0x86) × (c.now.p1 ≡ 0) × (c.now.p2 ≡ 0) }
-    ensures named { kind_named (next_of run.now) (plain_command c.now) ≡ Some result }
+    ensures named { (body : List ℕ) → kind_named (next_of run.now) (with_body (plain_command c.now) body) ≡ Some result }
     ensures turn { goes_on_in_run result ≡ true → next_of run.now ≡ Some result }
 {
     let _ = c;
@@ -78,13 +107,16 @@ fn inner_step(c: &Command<'_>, run: &Run) -> Kind
         Run::Mapped(_) => Kind::PerformKeyAgreement,
         Run::Agreed(_) => Kind::NoStep,
         Run::KeyChosen(_) => Kind::NoStep,
+        Run::Announced { .. } => Kind::NoStep,
+        Run::Challenged { .. } => Kind::NoStep,
+        Run::CaChosen(_) => Kind::NoStep,
     }
 }
 
 /// The kind of a PSO:Verify Certificate of class 00, where it is next.
 fn verification(c: &Command<'_>, run: &Run) -> Kind
     requires { (c.now.cla ≡ 0x00) × (c.now.ins ≡ 0x2A) × (c.now.p1 ≡ 0) × (c.now.p2 ≡ 0xBE) }
-    ensures named { kind_named (next_of run.now) (plain_command c.now) ≡ Some result }
+    ensures named { (body : List ℕ) → kind_named (next_of run.now) (with_body (plain_command c.now) body) ≡ Some result }
     ensures turn { goes_on_in_run result ≡ true → next_of run.now ≡ Some result }
 {
     let _ = c;
@@ -95,7 +127,72 @@ fn verification(c: &Command<'_>, run: &Run) -> Kind
         Run::Mapped(_) => Kind::NoStep,
         Run::Agreed(_) => Kind::NoStep,
         Run::KeyChosen(_) => Kind::VerifyCertificate,
+        Run::Announced { .. } => Kind::NoStep,
+        Run::Challenged { .. } => Kind::NoStep,
+        Run::CaChosen(_) => Kind::NoStep,
     }
+}
+
+/// The kind of a GET CHALLENGE, where it is next.
+fn challenge(c: &Command<'_>, run: &Run) -> Kind
+    requires { (c.now.cla ≡ 0x00) × (c.now.ins ≡ 0x84) × (c.now.p1 ≡ 0) × (c.now.p2 ≡ 0) }
+    ensures named { (body : List ℕ) → kind_named (next_of run.now) (with_body (plain_command c.now) body) ≡ Some result }
+    ensures turn { goes_on_in_run result ≡ true → next_of run.now ≡ Some result }
+{
+    let _ = c;
+    match run {
+        Run::Idle => Kind::NoStep,
+        Run::Chosen(_) => Kind::NoStep,
+        Run::NonceSent(_) => Kind::NoStep,
+        Run::Mapped(_) => Kind::NoStep,
+        Run::Agreed(_) => Kind::NoStep,
+        Run::KeyChosen(_) => Kind::NoStep,
+        Run::Announced { .. } => Kind::GetChallenge,
+        Run::Challenged { .. } => Kind::NoStep,
+        Run::CaChosen(_) => Kind::NoStep,
+    }
+}
+
+/// The kind of an EXTERNAL AUTHENTICATE, where it is next.
+fn signature(c: &Command<'_>, run: &Run) -> Kind
+    requires { (c.now.cla ≡ 0x00) × (c.now.ins ≡ 0x82) × (c.now.p1 ≡ 0) × (c.now.p2 ≡ 0) }
+    ensures named { (body : List ℕ) → kind_named (next_of run.now) (with_body (plain_command c.now) body) ≡ Some result }
+    ensures turn { goes_on_in_run result ≡ true → next_of run.now ≡ Some result }
+{
+    let _ = c;
+    match run {
+        Run::Idle => Kind::NoStep,
+        Run::Chosen(_) => Kind::NoStep,
+        Run::NonceSent(_) => Kind::NoStep,
+        Run::Mapped(_) => Kind::NoStep,
+        Run::Agreed(_) => Kind::NoStep,
+        Run::KeyChosen(_) => Kind::NoStep,
+        Run::Announced { .. } => Kind::NoStep,
+        Run::Challenged { .. } => Kind::ExternalAuthenticate,
+        Run::CaChosen(_) => Kind::NoStep,
+    }
+}
+
+/// A GET CHALLENGE of class 00, by its parameters.
+fn unchained_challenge(c: &Command<'_>, run: &Run) -> Result<Named, Refusal>
+    requires { (c.now.cla ≡ 0x00) × (c.now.ins ≡ 0x84) }
+    ensures named { IsNamed run.now (plain_command c.now) result }
+{
+    if c.p1 != 0 || c.p2 != 0 {
+        return Err(PARAMETERS);
+    }
+    Ok(Named::Ends(Last::Of(challenge(c, run))))
+}
+
+/// An EXTERNAL AUTHENTICATE of class 00, by its parameters.
+fn unchained_signature(c: &Command<'_>, run: &Run) -> Result<Named, Refusal>
+    requires { (c.now.cla ≡ 0x00) × (c.now.ins ≡ 0x82) }
+    ensures named { IsNamed run.now (plain_command c.now) result }
+{
+    if c.p1 != 0 || c.p2 != 0 {
+        return Err(PARAMETERS);
+    }
+    Ok(Named::Ends(Last::Of(signature(c, run))))
 }
 
 /// The kind of an MSE of class 00, by its parameters.
@@ -105,8 +202,10 @@ fn environment(c: &Command<'_>, run: &Run) -> Result<Named, Refusal>
 {
     let _ = run;
     match u16::from(c.p1) * 256 + u16::from(c.p2) {
-        0xc1a4 => Ok(Named::Last(Kind::SelectPace)),
-        0x81b6 => Ok(Named::Last(Kind::SelectPublicKey)),
+        0xc1a4 => Ok(Named::Ends(Last::Of(Kind::SelectPace))),
+        0x81b6 => Ok(Named::Ends(Last::Of(Kind::SelectPublicKey))),
+        0x81a4 => Ok(Named::Ends(Last::Of(Kind::AnnounceTerminal))),
+        0x41a4 => Ok(Named::Ends(Last::ByProtocol)),
         _ => Err(PARAMETERS),
     }
 }
@@ -119,7 +218,7 @@ fn operation(c: &Command<'_>, run: &Run) -> Result<Named, Refusal>
     if c.p1 != 0 || c.p2 != 0xbe {
         return Err(PARAMETERS);
     }
-    Ok(Named::Last(verification(c, run)))
+    Ok(Named::Ends(Last::Of(verification(c, run))))
 }
 
 /// A fragment of an MSE, by its parameters.
@@ -131,6 +230,8 @@ fn fragment(c: &Command<'_>, run: &Run) -> Result<Named, Refusal>
     match u16::from(c.p1) * 256 + u16::from(c.p2) {
         0xc1a4 => Ok(Named::Fragment),
         0x81b6 => Ok(Named::Fragment),
+        0x81a4 => Ok(Named::Fragment),
+        0x41a4 => Ok(Named::Fragment),
         _ => Err(PARAMETERS),
     }
 }
@@ -155,7 +256,7 @@ fn chained_step(c: &Command<'_>, run: &Run) -> Result<Named, Refusal>
     if c.p1 != 0 || c.p2 != 0 {
         return Err(PARAMETERS);
     }
-    Ok(Named::Last(inner_step(c, run)))
+    Ok(Named::Ends(Last::Of(inner_step(c, run))))
 }
 
 /// A command of class 10: a fragment, or a GENERAL AUTHENTICATE that more steps follow.
@@ -179,7 +280,7 @@ fn unchained_step(c: &Command<'_>, run: &Run) -> Result<Named, Refusal>
     if c.p1 != 0 || c.p2 != 0 {
         return Err(PARAMETERS);
     }
-    Ok(Named::Last(last_step(c, run)))
+    Ok(Named::Ends(Last::Of(last_step(c, run))))
 }
 
 /// The kind of a command of class 00.
@@ -190,10 +291,12 @@ fn plain_kind(c: &Command<'_>, run: &Run) -> Result<Named, Refusal>
     match c.ins {
         0x22 => environment(c, run),
         0x2a => operation(c, run),
+        0x82 => unchained_signature(c, run),
+        0x84 => unchained_challenge(c, run),
         0x2c => pin_management(c, run),
         0x86 => unchained_step(c, run),
         0xa4 => selection(c, run),
-        0xb0 if c.p1 < 0xa0 => Ok(Named::Last(Kind::ReadBinary)),
+        0xb0 if c.p1 < 0xa0 => Ok(Named::Ends(Last::Of(Kind::ReadBinary))),
         0xb0 => Err(PARAMETERS),
         _ => Err(INSTRUCTION),
     }

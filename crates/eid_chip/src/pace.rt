@@ -243,6 +243,8 @@ fn accept(
             current: memory.current,
             pace: Some(last_pace(done)),
             certificates: ChainState::new(),
+            terminal: None,
+            chip_proven: false,
         }),
         opened: Some(channel_of(done)),
     }

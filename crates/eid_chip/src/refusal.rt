@@ -102,15 +102,35 @@ pub const NO_TEMPLATE: Refusal = Refusal {
     rule: Rule(21),
     status: Status(0x6985),
 };
+/// A terminal has authenticated itself after the last PACE.
+pub const TERMINAL_IS_KNOWN: Refusal = Refusal {
+    rule: Rule(22),
+    status: Status(0x6985),
+};
 /// The name is neither a trust point's nor the document verifier's.
 pub const UNKNOWN_KEY: Refusal = Refusal {
     rule: Rule(23),
+    status: Status(0x6A88),
+};
+/// There is no chain of certificates that ends with a terminal.
+pub const NO_CHAIN: Refusal = Refusal {
+    rule: Rule(24),
+    status: Status(0x6985),
+};
+/// The name is not that of the chain's terminal.
+pub const OTHER_TERMINAL: Refusal = Refusal {
+    rule: Rule(25),
     status: Status(0x6A88),
 };
 /// The session has no terminal authentication.
 pub const NO_TERMINAL: Refusal = Refusal {
     rule: Rule(26),
     status: Status(0x6982),
+};
+/// The chip has authenticated itself after the terminal.
+pub const CHIP_IS_PROVEN: Refusal = Refusal {
+    rule: Rule(27),
+    status: Status(0x6985),
 };
 /// The last PACE gives no right to manage the PIN in this way.
 pub const NO_PIN_MANAGEMENT: Refusal = Refusal {
@@ -131,6 +151,11 @@ pub const NO_FILE: Refusal = Refusal {
 pub const OFFSET: Refusal = Refusal {
     rule: Rule(38),
     status: Status(0x6B00),
+};
+/// The terminal's point is not the one that it announced.
+pub const OTHER_KEY: Refusal = Refusal {
+    rule: Rule(41),
+    status: Status(0x6300),
 };
 /// A question to the coprocessor met a fault.
 pub const FAULT: Refusal = Refusal {

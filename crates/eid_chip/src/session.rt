@@ -3,14 +3,16 @@ ghost use Rattle.std.specs.Prelude.{◌≡◌};
 
 use arrayvec::ArrayVec;
 use eid_bits::Template;
-use eid_cvc::ChainState;
+use eid_ca::CaChosen;
+use eid_cvc::{ChainState, TerminalKnown};
 use eid_pace::{Agreed, Chosen, Mapped, NonceSent};
 use eid_record::{FileNo, Password};
+use eid_ta::{Announced, Challenged};
 
 /// The longest name of a public key, in bytes.
 pub const MAX_NAME: usize = 16;
 
-/// Where a run stands. The steps of PACE consume what the step before them left.
+/// Where a run stands. Each step of a protocol consumes what the step before it left.
 #[derive(Drop)]
 pub enum Run {
     /// There is no run.
@@ -25,6 +27,22 @@ pub enum Run {
     Agreed(Agreed),
     /// The public key with this name is to verify the next certificate.
     KeyChosen(ArrayVec<u8, MAX_NAME>),
+    /// A terminal has announced itself.
+    Announced {
+        /// The chip's identity in the last PACE.
+        identity: [u8; 32],
+        /// What it announced.
+        announced: Announced,
+    },
+    /// The challenge was sent to a terminal.
+    Challenged {
+        /// The chip's identity in the last PACE.
+        identity: [u8; 32],
+        /// What it announced, and the challenge.
+        challenged: Challenged,
+    },
+    /// Chip authentication was chosen.
+    CaChosen(CaChosen),
 }
 
 /// What is asked of the last PACE later.
@@ -49,6 +67,10 @@ pub struct Memory {
     pub pace: Option<LastPace>,
     /// What the certificates accepted since then leave.
     pub certificates: ChainState,
+    /// The terminal that has authenticated itself since then.
+    pub terminal: Option<TerminalKnown>,
+    /// Whether the chip has authenticated itself since then.
+    pub chip_proven: bool,
 }
 
 /// The session of a chip with power.
@@ -79,6 +101,8 @@ impl Session {
                 current: None,
                 pace: None,
                 certificates: ChainState::new(),
+                terminal: None,
+                chip_proven: false,
             },
         }
     }

@@ -17,7 +17,7 @@ use Rattle.eid_model.specs.Moments.{Event, PoweredOn, PoweredOff, Received, Plai
 use Rattle.eid_model.specs.Runs.{answers_of}
 use Rattle.eid_model.specs.Sessions.{State}
 use Rattle.eid_model.specs.declared.kind.Kind.{Kind}
-use Rattle.eid_model.specs.declared.kind.Kind.TheVariants.{SelectApplication, SelectMasterFile, SelectFile, ReadBinary, SelectPace, SelectPublicKey, VerifyCertificate, EncryptedNonce, MapNonce, PerformKeyAgreement, MutualAuthentication, ChangePin, UnblockPin, NoStep}
+use Rattle.eid_model.specs.declared.kind.Kind.TheVariants.{SelectApplication, SelectMasterFile, SelectFile, ReadBinary, SelectPace, SelectPublicKey, VerifyCertificate, AnnounceTerminal, GetChallenge, ExternalAuthenticate, SelectChipAuthentication, EncryptedNonce, MapNonce, PerformKeyAgreement, MutualAuthentication, AuthenticateChip, ChangePin, UnblockPin, NoProtocol, NoStep}
 use Rattle.eid_model.specs.Rules.{Incoming, NoCommand, MissingObjects, WrongObjects, OfCommand, Situation, RuleRow, plain_of, answer_rules, commit_rules, first_failed, proves_pin, is_token, token_effects, one_effect, to_advance, to_commit}
 use Rattle.eid_model.specs.Answers.{due, due_by, situation, rules_before}
 use Rattle.eid_model.specs.Bodies.{data_in}
@@ -65,13 +65,19 @@ kind_entered (Some ReadBinary) s = tt
 kind_entered (Some SelectPace) s = tt
 kind_entered (Some SelectPublicKey) s = tt
 kind_entered (Some VerifyCertificate) s = advance_entered s.kept s.state.certificates (certificate_in s.command.body)
+kind_entered (Some AnnounceTerminal) s = tt
+kind_entered (Some GetChallenge) s = tt
+kind_entered (Some ExternalAuthenticate) s = tt
+kind_entered (Some SelectChipAuthentication) s = tt
 kind_entered (Some EncryptedNonce) s = tt
 kind_entered (Some MapNonce) s = tt
 kind_entered (Some PerformKeyAgreement) s = tt
 kind_entered (Some MutualAuthentication) s =
     token_entered s.kept (proves_pin s.state.phase) (is_token (data_in s.command.body) s.state.phase)
+kind_entered (Some AuthenticateChip) s = tt
 kind_entered (Some ChangePin) s = (tt, tt)
 kind_entered (Some UnblockPin) s = (tt, tt)
+kind_entered (Some NoProtocol) s = tt
 kind_entered (Some NoStep) s = tt
 
 if_entered : (b : Bool) (kept : FullRecord) (effects : List PlainEffect) → AreEntered kept effects → AreEntered kept (if b then effects else [])

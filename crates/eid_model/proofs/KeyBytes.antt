@@ -1,19 +1,21 @@
 -- The keys of a channel are lists of bytes.
-use Rattle.std.proofs.Common.{◌≡◌, ℕ, zero, suc, ◌<◌, List, [], ◌∷◌, ◌++◌, take, slice_index, Option, Some, None, refl, subst, arith}
+use Rattle.std.proofs.Common.{◌≡◌, ℕ, zero, suc, ◌<◌, List, [], ◌∷◌, ◌++◌, take, slice_index, Option, Some, None, refl, ◌∙◌, subst, arith}
 use Rattle.std.specs.Prelude.{option_map}
 use Rattle.std.specs.Option.{option_or}
 use Rattle.std.specs.Int.{w32, to_be_bytes}
 use Rattle.sha1.specs.Sha1.{sha1, digest_bytes}
 use Rattle.eid_cmac.specs.Derivation.{derived}
-use Rattle.eid_pace.specs.States.{PlainDone}
 use Rattle.eid_pace.specs.Check.{done_by}
 use Rattle.eid_sm.specs.Keys.{Keys, ChannelState}
 use Rattle.eid_sm.specs.Parts.{AreBytes}
 use Rattle.eid_model.specs.declared.kind.Kind.{Kind}
-use Rattle.eid_model.specs.declared.kind.Kind.TheVariants.{SelectApplication, SelectMasterFile, SelectFile, ReadBinary, SelectPace, SelectPublicKey, VerifyCertificate, EncryptedNonce, MapNonce, PerformKeyAgreement, MutualAuthentication, ChangePin, UnblockPin, NoStep}
+use Rattle.eid_model.specs.declared.kind.Kind.TheVariants.{MutualAuthentication, AuthenticateChip}
 use Rattle.eid_model.specs.Moments.{PlainMoment}
-use Rattle.eid_model.specs.Runs.{Phase, Idle, Chose, SentNonce, HasBase, HasSecret, ChoseKey, run, phase}
-use Rattle.eid_model.specs.Sessions.{pace_done, pace_by, kind_of_moment, pace_completed, keys_of, channel_keys, channel, channel_after, commands_since_opening}
+use Rattle.eid_model.specs.Runs.{Phase, Idle, Chose, SentNonce, HasBase, HasSecret, ChoseKey, answers_of, run, phase}
+use Rattle.eid_copro.specs.declared.ask.Answer.{Answer}
+use Rattle.eid_copro.specs.declared.ask.Answer.TheVariants.{Challenge, Shared}
+use Rattle.eid_ca.specs.Keys.{enc_key, mac_key}
+use Rattle.eid_model.specs.Sessions.{done_with, keys_agreed, keys_with, kind_of_moment, keys_of, opened, channel_keys, channel, channel_after, commands_since_opening}
 
 -- each of them is a byte
 All : List ℕ → Type 0
@@ -50,43 +52,38 @@ pub derived_bytes : (secret nonce : List ℕ) (which : ℕ) (i : ℕ) → slice_
 unfolding sha1
 derived_bytes secret nonce which i = are_bytes _ (all_front 16 _ (digest_are _ 5)) i
 
--- the key of a PACE that was pace_completed
-done_bytes : (kind : Kind) (p : Phase) (done : PlainDone) → pace_done kind p ≡ Some done → AreBytes done.enc
-done_bytes MutualAuthentication (HasSecret agreed) done is =
-    let same : done_by agreed ≡ done = cc in
-    subst (λ (d : PlainDone). AreBytes d.enc) same (derived_bytes agreed.shared [] 1)
-done_bytes MutualAuthentication Idle done is = absurd (cc)
-done_bytes MutualAuthentication (Chose choice) done is = absurd (cc)
-done_bytes MutualAuthentication (SentNonce sent) done is = absurd (cc)
-done_bytes MutualAuthentication (HasBase mapped) done is = absurd (cc)
-done_bytes MutualAuthentication (ChoseKey name) done is = absurd (cc)
-done_bytes SelectApplication p done is = absurd (cc)
-done_bytes SelectMasterFile p done is = absurd (cc)
-done_bytes SelectFile p done is = absurd (cc)
-done_bytes ReadBinary p done is = absurd (cc)
-done_bytes SelectPace p done is = absurd (cc)
-done_bytes SelectPublicKey p done is = absurd (cc)
-done_bytes VerifyCertificate p done is = absurd (cc)
-done_bytes EncryptedNonce p done is = absurd (cc)
-done_bytes MapNonce p done is = absurd (cc)
-done_bytes PerformKeyAgreement p done is = absurd (cc)
-done_bytes ChangePin p done is = absurd (cc)
-done_bytes UnblockPin p done is = absurd (cc)
-done_bytes NoStep p done is = absurd (cc)
+-- the key that a PACE agreed
+pace_bytes : (p : Phase) (keys : Keys) → option_map keys_of (done_with p) ≡ Some keys → AreBytes keys.enc
+pace_bytes (HasSecret agreed) keys is =
+    let same : keys_of (done_by agreed) ≡ keys = cc in
+    subst (λ (k : Keys). AreBytes k.enc) same (derived_bytes agreed.shared [] 1)
+pace_bytes Idle keys is = absurd (cc)
+pace_bytes (Chose choice) keys is = absurd (cc)
+pace_bytes (SentNonce sent) keys is = absurd (cc)
+pace_bytes (HasBase mapped) keys is = absurd (cc)
+pace_bytes (ChoseKey name) keys is = absurd (cc)
+
+-- and the key that a chip authentication agreed
+chip_bytes : (given : List Answer) (keys : Keys) → keys_agreed given ≡ Some keys → AreBytes keys.enc
+chip_bytes (Challenge nonce ∷ Shared shared ∷ []) keys is =
+    let same : record { enc = enc_key shared nonce; mac = mac_key shared nonce } ≡ keys = cc in
+    subst (λ (k : Keys). AreBytes k.enc) same (derived_bytes shared nonce 1)
+chip_bytes given keys is = absurd (cc)
+
+-- the key that a kind opens a channel with
+kind_bytes : (kind : Option Kind) (given : List Answer) (p : Phase) (keys : Keys) → keys_with kind given p ≡ Some keys → AreBytes keys.enc
+kind_bytes None given p keys is = absurd (cc)
+kind_bytes (Some MutualAuthentication) given p keys is = pace_bytes p keys is
+kind_bytes (Some AuthenticateChip) given p keys is = chip_bytes given keys is
+kind_bytes (Some kind) given p keys is = absurd (cc)
 
 -- and the keys of the channel that was opened last
 keys_bytes : (session : List PlainMoment) (keys : Keys) → channel_keys session ≡ Some keys → AreBytes keys.enc
 keys_bytes [] keys is = absurd (cc)
-keys_bytes (m ∷ before) keys is = by (pace_completed m before) refl (keys_bytes before keys) is where
-  by : (o : Option PlainDone) → pace_completed m before ≡ o → (channel_keys before ≡ Some keys → AreBytes keys.enc) → option_or (option_map keys_of o) (channel_keys before) ≡ Some keys → AreBytes keys.enc
+keys_bytes (m ∷ before) keys is = by (opened m before) refl (keys_bytes before keys) is where
+  by : (o : Option Keys) → opened m before ≡ o → (channel_keys before ≡ Some keys → AreBytes keys.enc) → option_or o (channel_keys before) ≡ Some keys → AreBytes keys.enc
   by None none earlier is = earlier is
-  by (Some found) there earlier is =
-      let same : keys_of found ≡ keys = cc in
-      subst (λ (k : Keys). AreBytes k.enc) same (by_kind (kind_of_moment m before) there)
-    where
-      by_kind : (kind : Option Kind) → pace_by kind (phase (run before)) ≡ Some found → AreBytes found.enc
-      by_kind None none = absurd (cc)
-      by_kind (Some kind) there = done_bytes kind (phase (run before)) found there
+  by (Some found) there earlier is = kind_bytes (kind_of_moment m before) (answers_of m.asks) (phase (run before)) keys (there ∙ is)
 
 pub channel_bytes : (session : List PlainMoment) (ch : ChannelState) → channel session ≡ Some ch → AreBytes ch.keys.enc
 channel_bytes session ch is = by (channel_keys session) refl is where

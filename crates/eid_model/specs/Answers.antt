@@ -14,15 +14,17 @@ use Rattle.eid_pace.specs.Check.{chip_token}
 use Rattle.eid_pace.specs.Keys.{encrypted_nonce}
 use Rattle.eid_pace.specs.States.{PlainChoice}
 use Rattle.sha2.specs.Sha256.{sha256}
+use Rattle.eid_ta.specs.Announcing.{signed_bytes}
+use Rattle.eid_ca.specs.States.{proven_by}
 use Rattle.eid_cvc.specs.Certificates.{PlainCertificate}
 use Rattle.eid_cvc.specs.CertificateIn.{certificate_in}
 use Rattle.eid_cvc.specs.Chains.{PlainChain}
 use Rattle.eid_trust.specs.Trust.{key_of, signer_of}
 use Rattle.eid_model.specs.declared.kind.Kind.{Kind}
-use Rattle.eid_model.specs.declared.kind.Kind.TheVariants.{SelectApplication, SelectMasterFile, SelectFile, ReadBinary, SelectPace, SelectPublicKey, VerifyCertificate, EncryptedNonce, MapNonce, PerformKeyAgreement, MutualAuthentication, ChangePin, UnblockPin, NoStep}
+use Rattle.eid_model.specs.declared.kind.Kind.TheVariants.{SelectApplication, SelectMasterFile, SelectFile, ReadBinary, SelectPace, SelectPublicKey, VerifyCertificate, AnnounceTerminal, GetChallenge, ExternalAuthenticate, SelectChipAuthentication, EncryptedNonce, MapNonce, PerformKeyAgreement, MutualAuthentication, AuthenticateChip, ChangePin, UnblockPin, NoProtocol, NoStep}
 use Rattle.eid_model.specs.Bodies.{data_in, authentication_data}
 use Rattle.eid_model.specs.Kinds.{kind_named}
-use Rattle.eid_model.specs.Runs.{Phase, Chose, SentNonce, HasBase, HasSecret, choice_in}
+use Rattle.eid_model.specs.Runs.{Phase, Chose, SentNonce, HasBase, HasSecret, choice_in, Authentication, Announced, Challenged, ChoseProtocol}
 use Rattle.eid_model.specs.Sessions.{State, unchained}
 use Rattle.eid_model.specs.Rules.{Incoming, OfCommand, Situation, RuleRow, transport_rules, naming_rules, request_rules, kind_rules, answer_rules, commit_rules, proof_rules, first_failed, to_commit, bytes_of_file, file_meant, offset_meant}
 
@@ -67,6 +69,17 @@ token_reply kept (HasSecret agreed) =
     data_alone (object 0x7C (object 0x86 (chip_token agreed) ++ object 0x87 kept.current.name ++ previous_name kept.previous))
 token_reply kept phase = status_alone 0x9000
 
+-- the challenge
+abbrev pub challenge_reply : List Answer → PlainReply
+challenge_reply (answers.Challenge challenge ∷ []) = data_alone challenge
+challenge_reply answers = status_alone 0x9000
+
+-- the chip's nonce in 81, and in 82 its token over the terminal's point
+abbrev pub proof_reply : List ℕ → Authentication → List Answer → PlainReply
+proof_reply point (ChoseProtocol chosen) (answers.Challenge nonce ∷ answers.Shared shared ∷ []) =
+    data_alone (object 0x7C (object 0x81 nonce ++ object 0x82 (proven_by chosen.protocol point nonce shared).token))
+proof_reply point authentication answers = status_alone 0x9000
+
 -- the answer to a command that is carried out
 abbrev pub success_of : Kind → Situation → PlainReply
 success_of SelectApplication s = status_alone 0x9000
@@ -77,12 +90,18 @@ success_of ReadBinary s =
 success_of SelectPace s = select_reply s.kept.fields (choice_in s.command.body)
 success_of SelectPublicKey s = status_alone 0x9000
 success_of VerifyCertificate s = status_alone 0x9000
+success_of AnnounceTerminal s = status_alone 0x9000
+success_of GetChallenge s = challenge_reply s.answers
+success_of ExternalAuthenticate s = status_alone 0x9000
+success_of SelectChipAuthentication s = status_alone 0x9000
 success_of EncryptedNonce s = nonce_reply s.kept.fields s.state.phase s.answers
 success_of MapNonce s = point_reply 0x82 s.answers
 success_of PerformKeyAgreement s = point_reply 0x84 s.answers
 success_of MutualAuthentication s = token_reply s.kept.fields s.state.phase
+success_of AuthenticateChip s = proof_reply (data_in s.command.body) s.state.authentication s.answers
 success_of ChangePin s = status_alone 0x9000
 success_of UnblockPin s = status_alone 0x9000
+success_of NoProtocol s = status_alone 0x9000
 success_of NoStep s = status_alone 0x9000
 
 -- the answer to a command of this kind, or to a fragment
@@ -154,6 +173,23 @@ verify_question kept chain (Some certificate) [] =
     option_map (λ signer. questions.Verify (key_of signer) (sha256 certificate.whole) certificate.signature) (signer_of kept chain certificate.body.issuer)
 verify_question kept chain certificate answers = None
 
+-- a challenge is drawn
+abbrev pub challenge_question : Authentication → List Answer → Option Question
+challenge_question (Announced identity announced) [] = Some questions.Challenge
+challenge_question authentication answers = None
+
+-- the terminal's signature is verified, with the key of its certificate
+abbrev pub signature_question : List ℕ → Authentication → List Answer → Option Question
+signature_question signature (Challenged identity challenged) [] =
+    Some (questions.Verify challenged.announced.key (sha256 (signed_bytes identity challenged)) signature)
+signature_question signature authentication answers = None
+
+-- a nonce is drawn, and a secret agreed with the chip's static key
+abbrev pub chip_question : PlainRecord → List ℕ → Authentication → List Answer → Option Question
+chip_question kept point (ChoseProtocol chosen) [] = Some questions.Challenge
+chip_question kept point (ChoseProtocol chosen) (answers.Challenge nonce ∷ []) = Some (questions.Agree kept.ca_secret point)
+chip_question kept point authentication answers = None
+
 -- the question of a kind that follows these answers
 abbrev pub question_of : Option Kind → Situation → Option Question
 question_of None s = None
@@ -164,12 +200,18 @@ question_of (Some ReadBinary) s = None
 question_of (Some SelectPace) s = None
 question_of (Some SelectPublicKey) s = None
 question_of (Some VerifyCertificate) s = verify_question s.kept.fields s.state.certificates (certificate_in s.command.body) s.answers
+question_of (Some AnnounceTerminal) s = None
+question_of (Some GetChallenge) s = challenge_question s.state.authentication s.answers
+question_of (Some ExternalAuthenticate) s = signature_question s.command.body s.state.authentication s.answers
+question_of (Some SelectChipAuthentication) s = None
 question_of (Some EncryptedNonce) s = nonce_question s.state.phase s.answers
 question_of (Some MapNonce) s = map_question (data_in s.command.body) s.state.phase s.answers
 question_of (Some PerformKeyAgreement) s = agree_question (data_in s.command.body) s.state.phase s.answers
 question_of (Some MutualAuthentication) s = None
+question_of (Some AuthenticateChip) s = chip_question s.kept.fields (data_in s.command.body) s.state.authentication s.answers
 question_of (Some ChangePin) s = None
 question_of (Some UnblockPin) s = None
+question_of (Some NoProtocol) s = None
 question_of (Some NoStep) s = None
 
 -- the rules before the answers

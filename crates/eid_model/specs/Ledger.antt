@@ -1,5 +1,5 @@
 -- The ledger: which effects were committed, and the record that is kept because of them. Everything is found by looking
--- back over the moments and over the ledger; and the certificates accepted, with it. This project's own.
+-- back over the moments and over the ledger; and with it the certificates accepted and the terminal known. This project's own.
 use Rattle.std.specs.Prelude.{◌≡◌, ◌⊎◌, ℕ, ◌+◌, ◌-◌, Bool, ◌==◌, ◌&&◌, nat_le, nat_lt, List, [], ◌∷◌, length, take, drop, slice_index, Option, Some, None, is_some, if◌then◌else◌}
 use Rattle.eid_apdu.specs.Command.{PlainCommand}
 use Rattle.eid_record.specs.Plain.{FullRecord, PlainTrustPoint, PlainEffect, Spend, Refill, Unblock, SetPin, SetCan, Active, Advance, Write}
@@ -7,7 +7,8 @@ use Rattle.eid_record.specs.Effect.{committed}
 use Rattle.eid_trust.specs.Trust.{later_date}
 use Rattle.eid_model.specs.Moments.{Event, PoweredOn, PoweredOff, Received, PlainMoment, on, live}
 use Rattle.eid_model.specs.Runs.{answers_of}
-use Rattle.eid_model.specs.Sessions.{State, Accepted, accepted_more, state_in}
+use Rattle.eid_cvc.specs.Chains.{PlainTerminalKnown}
+use Rattle.eid_model.specs.Sessions.{State, Accepted, accepted_more, terminal_more, state_in}
 use Rattle.eid_model.specs.Rules.{OfCommand}
 use Rattle.eid_model.specs.Answers.{situation, due}
 
@@ -191,20 +192,22 @@ books_more opening power state m PoweredOff books = books
 books_more opening power state m (Received bytes) books =
     if power then books_handled (due_at (record_after opening books.ledger) state m.plain m) m books else books
 
--- The books, and the certificates that count, the newest first.
+-- The books, the certificates that count, the newest first, and the terminal that has authenticated itself.
 pub record Account : Type 0 where
   pub books : Books
   pub accepted : List Accepted
+  pub terminal : Option PlainTerminalKnown
 
 -- and after one more moment
 abbrev pub account_more : FullRecord → List PlainMoment → PlainMoment → Account → Account
 account_more opening before m account = record {
-  books = books_more opening (on before) (state_in account.accepted (live before)) m m.input account.books;
+  books = books_more opening (on before) (state_in account.accepted account.terminal (live before)) m m.input account.books;
   accepted = accepted_more (record_after opening account.books.ledger).fields m (live before) account.accepted;
+  terminal = terminal_more m (live before) account.accepted account.terminal;
 }
 
 unfoldable pub account : FullRecord → List PlainMoment → Account
-account opening [] = record { books = record { ledger = []; pending = None }; accepted = [] }
+account opening [] = record { books = record { ledger = []; pending = None }; accepted = []; terminal = None }
 account opening (m ∷ before) = account_more opening before m (account opening before)
 
 abbrev pub books : FullRecord → List PlainMoment → Books
@@ -214,9 +217,13 @@ books opening moments = (account opening moments).books
 abbrev pub accepted : FullRecord → List PlainMoment → List Accepted
 accepted opening moments = (account opening moments).accepted
 
+-- the terminal that has authenticated itself since the last PACE of the session
+abbrev pub terminal : FullRecord → List PlainMoment → Option PlainTerminalKnown
+terminal opening moments = (account opening moments).terminal
+
 -- what the moments of a journal with this opening record leave
 abbrev pub state_of : FullRecord → List PlainMoment → State
-state_of opening moments = state_in (accepted opening moments) (live moments)
+state_of opening moments = state_in (accepted opening moments) (terminal opening moments) (live moments)
 
 abbrev pub ledger : FullRecord → List PlainMoment → List PlainEffect
 ledger opening moments = (books opening moments).ledger

@@ -11,13 +11,19 @@ use Rattle.eid_record.specs.Effect.{applied}
 use Rattle.eid_bits.specs.Rights.{role_of}
 use Rattle.eid_cvc.specs.Certificates.{PlainBody, PlainCertificate}
 use Rattle.eid_cvc.specs.CertificateIn.{certificate_in}
-use Rattle.eid_cvc.specs.Chains.{PlainChain}
+use Rattle.eid_cvc.specs.Chains.{PlainChain, PlainParty, PlainTerminalKnown}
+use Rattle.eid_ta.specs.States.{PlainAnnouncement}
+use Rattle.eid_ta.specs.AnnouncementIn.{announcement_in}
+use Rattle.eid_ta.specs.Rules.{chain_rule, name_rule}
+use Rattle.eid_ca.specs.Keys.{x_half}
+use Rattle.eid_ca.specs.Rules.{other_key_rule}
+use Rattle.eid_ca.specs.Selections.{chosen_in}
 use Rattle.eid_trust.specs.Trust.{selected_rule, role_rule, link_rule, expiry_rule, signer_of, is_issued_by, may_sign, is_link, is_of_current, is_in_date, advance}
 use Rattle.eid_record.specs.Reading.{is_ascii_digit}
 use Rattle.eid_record.specs.declared.fields.Password.{Password}
 use Rattle.eid_password.specs.Passwords.{is_can, is_pin, is_puk, has_try, is_resumed, active_rule, try_rule, resumed_rule}
 use Rattle.eid_model.specs.declared.kind.Kind.{Kind}
-use Rattle.eid_model.specs.declared.kind.Kind.TheVariants.{SelectApplication, SelectMasterFile, SelectFile, ReadBinary, SelectPace, SelectPublicKey, VerifyCertificate, EncryptedNonce, MapNonce, PerformKeyAgreement, MutualAuthentication, ChangePin, UnblockPin, NoStep}
+use Rattle.eid_model.specs.declared.kind.Kind.TheVariants.{SelectApplication, SelectMasterFile, SelectFile, ReadBinary, SelectPace, SelectPublicKey, VerifyCertificate, AnnounceTerminal, GetChallenge, ExternalAuthenticate, SelectChipAuthentication, EncryptedNonce, MapNonce, PerformKeyAgreement, MutualAuthentication, AuthenticateChip, ChangePin, UnblockPin, NoProtocol, NoStep}
 use Rattle.eid_model.specs.Kinds.{same_kind, kinds, has_instruction, has_parameters, is_by_short, file_of_short, file_of_id, card_access, card_security, application_id}
 use Rattle.eid_copro.specs.declared.ask.Answer.{Answer}
 use Rattle.eid_copro.specs.declared.ask.Answer.TheVariants as answers
@@ -26,7 +32,7 @@ use Rattle.eid_pace.specs.Check.{terminal_token}
 use Rattle.eid_pace.specs.Selections.{PlainSelection, password_named}
 use Rattle.eid_pace.specs.SelectionIn.{selection_in}
 use Rattle.eid_model.specs.Bodies.{no_data, data_in, holds_value, holds_point, key_name_in}
-use Rattle.eid_model.specs.Runs.{Phase, Idle, Chose, SentNonce, HasBase, HasSecret, ChoseKey}
+use Rattle.eid_model.specs.Runs.{Phase, Idle, Chose, SentNonce, HasBase, HasSecret, ChoseKey, Authentication, NotBegun, Announced, Challenged, ChoseProtocol}
 use Rattle.eid_model.specs.Sessions.{State, PaceMemory, number_of_two}
 
 -- what the bytes received say: no command with a body of at most 2,200 bytes; in a channel, that the objects of
@@ -76,6 +82,10 @@ is_class class = class == 0x00 || class == 0x10 || class == 0x80
 abbrev pub PIN_SIZE : ℕ
 PIN_SIZE = 6
 
+-- the bytes of a signature
+abbrev pub SIGNATURE_SIZE : ℕ
+SIGNATURE_SIZE = 64
+
 -- the form of the body of each kind
 abbrev pub is_formed : Option Kind → List ℕ → Bool
 is_formed None body = true
@@ -86,12 +96,18 @@ is_formed (Some ReadBinary) body = length body == 0
 is_formed (Some SelectPace) body = is_some (selection_in body)
 is_formed (Some SelectPublicKey) body = is_some (key_name_in body)
 is_formed (Some VerifyCertificate) body = is_some (certificate_in body)
+is_formed (Some AnnounceTerminal) body = is_some (announcement_in body)
+is_formed (Some GetChallenge) body = length body == 0
+is_formed (Some ExternalAuthenticate) body = length body == SIGNATURE_SIZE
+is_formed (Some SelectChipAuthentication) body = is_some (chosen_in body)
 is_formed (Some EncryptedNonce) body = bytes_eq body no_data
 is_formed (Some MapNonce) body = holds_point 0x81 body
 is_formed (Some PerformKeyAgreement) body = holds_point 0x83 body
 is_formed (Some MutualAuthentication) body = holds_value 0x85 8 body
+is_formed (Some AuthenticateChip) body = holds_point 0x80 body
 is_formed (Some ChangePin) body = length body == PIN_SIZE && list_all is_ascii_digit body
 is_formed (Some UnblockPin) body = length body == 0
+is_formed (Some NoProtocol) body = false
 is_formed (Some NoStep) body = true
 
 -- the file that a READ means: of its short identifier, or the current one
@@ -112,12 +128,18 @@ is_named (Some ReadBinary) s = not (is_by_short s.command) || is_some (file_mean
 is_named (Some SelectPace) s = true
 is_named (Some SelectPublicKey) s = true
 is_named (Some VerifyCertificate) s = true
+is_named (Some AnnounceTerminal) s = true
+is_named (Some GetChallenge) s = true
+is_named (Some ExternalAuthenticate) s = true
+is_named (Some SelectChipAuthentication) s = true
 is_named (Some EncryptedNonce) s = true
 is_named (Some MapNonce) s = true
 is_named (Some PerformKeyAgreement) s = true
 is_named (Some MutualAuthentication) s = true
+is_named (Some AuthenticateChip) s = true
 is_named (Some ChangePin) s = true
 is_named (Some UnblockPin) s = true
+is_named (Some NoProtocol) s = true
 is_named (Some NoStep) s = true
 
 -- the file's bytes, where it is present
@@ -188,12 +210,18 @@ reads_card_access (Some ReadBinary) file = is_card_access file
 reads_card_access (Some SelectPace) file = false
 reads_card_access (Some SelectPublicKey) file = false
 reads_card_access (Some VerifyCertificate) file = false
+reads_card_access (Some AnnounceTerminal) file = false
+reads_card_access (Some GetChallenge) file = false
+reads_card_access (Some ExternalAuthenticate) file = false
+reads_card_access (Some SelectChipAuthentication) file = false
 reads_card_access (Some EncryptedNonce) file = false
 reads_card_access (Some MapNonce) file = false
 reads_card_access (Some PerformKeyAgreement) file = false
 reads_card_access (Some MutualAuthentication) file = false
+reads_card_access (Some AuthenticateChip) file = false
 reads_card_access (Some ChangePin) file = false
 reads_card_access (Some UnblockPin) file = false
+reads_card_access (Some NoProtocol) file = false
 reads_card_access (Some NoStep) file = false
 
 -- the last PACE gives the right to manage the PIN: that with the PIN to change it, that with the PUK to unblock it
@@ -206,12 +234,18 @@ may_manage (Some ReadBinary) pace = false
 may_manage (Some SelectPace) pace = false
 may_manage (Some SelectPublicKey) pace = false
 may_manage (Some VerifyCertificate) pace = false
+may_manage (Some AnnounceTerminal) pace = false
+may_manage (Some GetChallenge) pace = false
+may_manage (Some ExternalAuthenticate) pace = false
+may_manage (Some SelectChipAuthentication) pace = false
 may_manage (Some EncryptedNonce) pace = false
 may_manage (Some MapNonce) pace = false
 may_manage (Some PerformKeyAgreement) pace = false
 may_manage (Some MutualAuthentication) pace = false
+may_manage (Some AuthenticateChip) pace = false
 may_manage (Some ChangePin) pace = was_with is_pin pace
 may_manage (Some UnblockPin) pace = was_with is_puk pace
+may_manage (Some NoProtocol) pace = false
 may_manage (Some NoStep) pace = false
 
 -- the answer is no point
@@ -254,6 +288,52 @@ says it (Some certificate) = it certificate.body
 abbrev pub is_by_signer : PlainRecord → PlainChain → PlainBody → Bool
 is_by_signer kept chain c = may_sign (signer_of kept chain c.issuer) (role_of c.template)
 
+-- ---- terminal authentication and chip authentication
+
+-- the chain is there: a terminal under a document verifier under a trust point
+abbrev pub has_chain : PlainChain → Bool
+has_chain chain = is_some chain.root && is_some chain.verifier && is_some chain.terminal
+
+abbrev pub is_named_party : Option PlainParty → List ℕ → Bool
+is_named_party None name = false
+is_named_party (Some party) name = bytes_eq name party.name
+
+-- the announcement names the terminal of the chain
+abbrev pub announces : PlainChain → Option PlainAnnouncement → Bool
+announces chain None = false
+announces chain (Some announcement) = is_named_party chain.terminal announcement.reference
+
+-- what a command needs of terminal authentication: that one succeeded; no data group is given out at this stage
+abbrev pub follows_terminal : Option Kind → Option ℕ → Option PlainTerminalKnown → Bool
+follows_terminal None file terminal = true
+follows_terminal (Some SelectApplication) file terminal = true
+follows_terminal (Some SelectMasterFile) file terminal = true
+follows_terminal (Some SelectFile) file terminal = true
+follows_terminal (Some ReadBinary) file terminal = not (is_data_group file)
+follows_terminal (Some SelectPace) file terminal = true
+follows_terminal (Some SelectPublicKey) file terminal = true
+follows_terminal (Some VerifyCertificate) file terminal = true
+follows_terminal (Some AnnounceTerminal) file terminal = true
+follows_terminal (Some GetChallenge) file terminal = true
+follows_terminal (Some ExternalAuthenticate) file terminal = true
+follows_terminal (Some SelectChipAuthentication) file terminal = is_some terminal
+follows_terminal (Some EncryptedNonce) file terminal = true
+follows_terminal (Some MapNonce) file terminal = true
+follows_terminal (Some PerformKeyAgreement) file terminal = true
+follows_terminal (Some MutualAuthentication) file terminal = true
+follows_terminal (Some AuthenticateChip) file terminal = true
+follows_terminal (Some ChangePin) file terminal = true
+follows_terminal (Some UnblockPin) file terminal = true
+follows_terminal (Some NoProtocol) file terminal = true
+follows_terminal (Some NoStep) file terminal = true
+
+-- the point is the one that the terminal announced, by its X half
+abbrev pub is_announced : List ℕ → Authentication → Bool
+is_announced point NotBegun = false
+is_announced point (Announced identity announced) = false
+is_announced point (Challenged identity challenged) = false
+is_announced point (ChoseProtocol chosen) = bytes_eq (x_half point) chosen.key_x
+
 -- the answer is that a signature is wrong
 abbrev pub is_wrong : Answer → Bool
 is_wrong (answers.Verdict right) = not right
@@ -285,12 +365,18 @@ to_commit (Some ReadBinary) s = []
 to_commit (Some SelectPace) s = []
 to_commit (Some SelectPublicKey) s = []
 to_commit (Some VerifyCertificate) s = to_advance s.kept.fields s.state.certificates (certificate_in s.command.body)
+to_commit (Some AnnounceTerminal) s = []
+to_commit (Some GetChallenge) s = []
+to_commit (Some ExternalAuthenticate) s = []
+to_commit (Some SelectChipAuthentication) s = []
 to_commit (Some EncryptedNonce) s = []
 to_commit (Some MapNonce) s = []
 to_commit (Some PerformKeyAgreement) s = []
 to_commit (Some MutualAuthentication) s = token_effects (proves_pin s.state.phase) (is_token (data_in s.command.body) s.state.phase)
+to_commit (Some AuthenticateChip) s = []
 to_commit (Some ChangePin) s = SetPin s.command.body ∷ []
 to_commit (Some UnblockPin) s = Unblock (was_with is_puk s.state.pace) ∷ []
+to_commit (Some NoProtocol) s = []
 to_commit (Some NoStep) s = []
 
 -- nothing is to be committed
@@ -368,11 +454,13 @@ kind_rules =
     record {
       number = 20;
       status = fixed 0x6982;
-      kinds = ReadBinary ∷ SelectPublicKey ∷ ChangePin ∷ UnblockPin ∷ [];
+      kinds = ReadBinary ∷ SelectPublicKey ∷ AnnounceTerminal ∷ SelectChipAuthentication ∷ ChangePin ∷ UnblockPin ∷ [];
       holds = λ s. reads_card_access s.kind (file_meant s) || is_some s.state.pace;
     } ∷
     -- in that PACE the holder gave a template
-    record { number = 21; status = fixed 0x6985; kinds = SelectPublicKey ∷ []; holds = λ s. had_template s.state.pace } ∷
+    record { number = 21; status = fixed 0x6985; kinds = SelectPublicKey ∷ AnnounceTerminal ∷ []; holds = λ s. had_template s.state.pace } ∷
+    -- no terminal authentication succeeded after it
+    record { number = 22; status = fixed 0x6985; kinds = SelectPublicKey ∷ AnnounceTerminal ∷ []; holds = λ s. not (is_some s.state.terminal) } ∷
     -- the name is that of a trust point, or of the document verifier accepted last
     record {
       number = 23;
@@ -380,8 +468,24 @@ kind_rules =
       kinds = SelectPublicKey ∷ [];
       holds = λ s. is_key_known s.kept.fields s.state.certificates (key_name_in s.command.body);
     } ∷
-    -- for a data group: terminal authentication succeeded. No kind of this stage can have brought one.
-    record { number = 26; status = fixed 0x6982; kinds = ReadBinary ∷ []; holds = λ s. not (is_data_group (file_meant s)) } ∷
+    -- the chain is there
+    record { number = chain_rule; status = fixed 0x6985; kinds = AnnounceTerminal ∷ []; holds = λ s. has_chain s.state.certificates } ∷
+    -- the terminal is the one of the chain
+    record {
+      number = name_rule;
+      status = fixed 0x6A88;
+      kinds = AnnounceTerminal ∷ [];
+      holds = λ s. announces s.state.certificates (announcement_in s.command.body);
+    } ∷
+    -- terminal authentication succeeded; no data group is given out at this stage
+    record {
+      number = 26;
+      status = fixed 0x6982;
+      kinds = ReadBinary ∷ SelectChipAuthentication ∷ [];
+      holds = λ s. follows_terminal s.kind (file_meant s) s.state.terminal;
+    } ∷
+    -- no chip authentication succeeded after it
+    record { number = 27; status = fixed 0x6985; kinds = SelectChipAuthentication ∷ []; holds = λ s. not s.state.chip_proven } ∷
     -- that PACE was with the PIN, to change it, or with the PUK, to unblock the PIN
     record { number = 29; status = fixed 0x6982; kinds = ChangePin ∷ UnblockPin ∷ []; holds = λ s. may_manage s.kind s.state.pace } ∷
     -- after PACE with the PUK: an unblocking is left
@@ -399,6 +503,13 @@ kind_rules =
       status = fixed 0x6B00;
       kinds = ReadBinary ∷ [];
       holds = λ s. nat_le (offset_meant s.command) (length (unwrap_or (bytes_of_file s.kept (file_meant s)) []));
+    } ∷
+    -- the terminal's point is the one that it announced
+    record {
+      number = other_key_rule;
+      status = fixed 0x6300;
+      kinds = AuthenticateChip ∷ [];
+      holds = λ s. is_announced (data_in s.command.body) s.state.authentication;
     } ∷
     -- the certificate is issued under the name that was selected
     record {
@@ -437,9 +548,9 @@ answer_rules =
     -- the terminal's ephemeral point differs from the chip's
     record { number = 51; status = fixed 0x6300; kinds = PerformKeyAgreement ∷ []; holds = λ s. not (is_own_point (data_in s.command.body) s.answers) } ∷
     -- no question was answered with no point
-    record { number = 52; status = fixed 0x6A80; kinds = MapNonce ∷ PerformKeyAgreement ∷ []; holds = λ s. not (list_any is_no_point s.answers) } ∷
+    record { number = 52; status = fixed 0x6A80; kinds = MapNonce ∷ PerformKeyAgreement ∷ AuthenticateChip ∷ []; holds = λ s. not (list_any is_no_point s.answers) } ∷
     -- the signature was not found wrong
-    record { number = 53; status = fixed 0x6300; kinds = VerifyCertificate ∷ []; holds = λ s. not (list_any is_wrong s.answers) } ∷ []
+    record { number = 53; status = fixed 0x6300; kinds = VerifyCertificate ∷ ExternalAuthenticate ∷ []; holds = λ s. not (list_any is_wrong s.answers) } ∷ []
 
 -- whether there is room for what is to be committed
 abbrev pub commit_rules : List RuleRow

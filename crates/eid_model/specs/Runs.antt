@@ -9,8 +9,14 @@ use Rattle.eid_pace.specs.States.{PlainChoice, PlainNonceSent, PlainMapped, Plai
 use Rattle.eid_pace.specs.Selections.{chosen_by}
 use Rattle.eid_pace.specs.SelectionIn.{selection_in}
 use Rattle.std.specs.Result.{result_ok}
+use Rattle.eid_cvc.specs.Chains.{PlainChain, PlainTerminalKnown}
+use Rattle.eid_ta.specs.States.{PlainAnnounced, PlainChallenged}
+use Rattle.eid_ta.specs.Announcing.{announced_in}
+use Rattle.eid_ta.specs.AnnouncementIn.{announcement_in}
+use Rattle.eid_ca.specs.States.{PlainCaChosen}
+use Rattle.eid_ca.specs.Selections.{chosen_in, chosen_by as chip_chosen_by}
 use Rattle.eid_model.specs.declared.kind.Kind.{Kind}
-use Rattle.eid_model.specs.declared.kind.Kind.TheVariants.{SelectApplication, SelectMasterFile, SelectFile, ReadBinary, SelectPace, SelectPublicKey, VerifyCertificate, EncryptedNonce, MapNonce, PerformKeyAgreement, MutualAuthentication, ChangePin, UnblockPin, NoStep}
+use Rattle.eid_model.specs.declared.kind.Kind.TheVariants.{SelectApplication, SelectMasterFile, SelectFile, ReadBinary, SelectPace, SelectPublicKey, VerifyCertificate, AnnounceTerminal, GetChallenge, ExternalAuthenticate, SelectChipAuthentication, EncryptedNonce, MapNonce, PerformKeyAgreement, MutualAuthentication, AuthenticateChip, ChangePin, UnblockPin, NoProtocol, NoStep}
 use Rattle.eid_model.specs.Kinds.{kind_named, has_form_of, step_after, begins_run, goes_on_in_run}
 use Rattle.eid_model.specs.Moments.{PlainMoment, succeeded}
 use Rattle.eid_model.specs.Chains.{fragment, request_of}
@@ -105,14 +111,91 @@ entered ReadBinary c answers before = Idle
 entered SelectPace c answers before = as_chosen (choice_in c.body)
 entered SelectPublicKey c answers before = as_named (key_name_in c.body)
 entered VerifyCertificate c answers before = Idle
+entered AnnounceTerminal c answers before = Idle
+entered GetChallenge c answers before = Idle
+entered ExternalAuthenticate c answers before = Idle
+entered SelectChipAuthentication c answers before = Idle
 entered EncryptedNonce c answers before = with_nonce answers before
 entered MapNonce c answers before = with_base answers before
 entered PerformKeyAgreement c answers before = with_secret (data_in c.body) answers before
 entered MutualAuthentication c answers before = Idle
+entered AuthenticateChip c answers before = Idle
 entered ChangePin c answers before = Idle
 entered UnblockPin c answers before = Idle
+entered NoProtocol c answers before = Idle
 entered NoStep c answers before = Idle
 
 abbrev pub phase : List Step → Phase
 phase [] = Idle
 phase (step ∷ before) = entered step.kind step.command step.answers (phase before)
+
+-- ---- terminal authentication and chip authentication
+
+-- What these find in a session: the chip's identity in the last PACE, the certificates, and the terminal that has
+-- authenticated itself.
+pub record Context : Type 0 where
+  pub identity : Option (List ℕ)
+  pub certificates : PlainChain
+  pub terminal : Option PlainTerminalKnown
+
+-- What later steps need of such a run.
+pub data Authentication : Type 0 where
+  -- there is no such run
+  NotBegun : Authentication
+  -- the terminal has announced itself to the chip of this identity
+  Announced : (identity : List ℕ) (announced : PlainAnnounced) → Authentication
+  -- the challenge was sent
+  Challenged : (identity : List ℕ) (challenged : PlainChallenged) → Authentication
+  -- chip authentication was chosen
+  ChoseProtocol : PlainCaChosen → Authentication
+
+abbrev pub as_announced : Option (List ℕ) → Option PlainAnnounced → Authentication
+as_announced None announced = NotBegun
+as_announced (Some identity) None = NotBegun
+as_announced (Some identity) (Some announced) = Announced identity announced
+
+-- what an announcement makes, with the certificates of its terminal
+abbrev pub announcement_of : PlainChain → List ℕ → Option PlainAnnounced
+announcement_of certificates body = result_ok (announced_in certificates (announcement_in body))
+
+abbrev pub with_challenge : List Answer → Authentication → Authentication
+with_challenge (answers.Challenge challenge ∷ []) (Announced identity announced) =
+    Challenged identity (record { announced = announced; challenge = challenge })
+with_challenge answers before = NotBegun
+
+abbrev pub as_protocol : Option PlainCaChosen → Authentication
+as_protocol None = NotBegun
+as_protocol (Some chosen) = ChoseProtocol chosen
+
+-- what a selection of chip authentication chose, for a terminal that is known
+abbrev pub protocol_of : Option PlainTerminalKnown → List ℕ → Option PlainCaChosen
+protocol_of None body = None
+protocol_of (Some terminal) body = result_ok (chip_chosen_by (chosen_in body) terminal.key_x)
+
+-- what a step adds
+unfoldable pub claimed : Kind → PlainCommand → List Answer → Context → Authentication → Authentication
+claimed SelectApplication c answers context before = NotBegun
+claimed SelectMasterFile c answers context before = NotBegun
+claimed SelectFile c answers context before = NotBegun
+claimed ReadBinary c answers context before = NotBegun
+claimed SelectPace c answers context before = NotBegun
+claimed SelectPublicKey c answers context before = NotBegun
+claimed VerifyCertificate c answers context before = NotBegun
+claimed AnnounceTerminal c answers context before = as_announced context.identity (announcement_of context.certificates c.body)
+claimed GetChallenge c answers context before = with_challenge answers before
+claimed ExternalAuthenticate c answers context before = NotBegun
+claimed SelectChipAuthentication c answers context before = as_protocol (protocol_of context.terminal c.body)
+claimed EncryptedNonce c answers context before = NotBegun
+claimed MapNonce c answers context before = NotBegun
+claimed PerformKeyAgreement c answers context before = NotBegun
+claimed MutualAuthentication c answers context before = NotBegun
+claimed AuthenticateChip c answers context before = NotBegun
+claimed ChangePin c answers context before = NotBegun
+claimed UnblockPin c answers context before = NotBegun
+claimed NoProtocol c answers context before = NotBegun
+claimed NoStep c answers context before = NotBegun
+
+-- Where such a run stands. Nothing in it changes what it finds.
+abbrev pub authentication : Context → List Step → Authentication
+authentication context [] = NotBegun
+authentication context (step ∷ before) = claimed step.kind step.command step.answers context (authentication context before)

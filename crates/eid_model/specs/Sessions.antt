@@ -10,15 +10,19 @@ use Rattle.eid_record.specs.Plain.{PlainRecord}
 use Rattle.eid_bits.specs.Rights.{role_of}
 use Rattle.eid_cvc.specs.Certificates.{PlainBody}
 use Rattle.eid_cvc.specs.CertificateIn.{certificate_in}
-use Rattle.eid_cvc.specs.Chains.{PlainChain, no_chain}
+use Rattle.eid_cvc.specs.Chains.{PlainChain, PlainTerminalKnown, no_chain}
+use Rattle.eid_copro.specs.declared.ask.Answer.{Answer}
+use Rattle.eid_copro.specs.declared.ask.Answer.TheVariants as answers
+use Rattle.eid_ta.specs.Announcing.{known_by}
+use Rattle.eid_ca.specs.Keys.{enc_key, mac_key}
 use Rattle.eid_trust.specs.Trust.{is_link, is_verifier_role, is_terminal_role, no_sectors, party_of, point_named}
 use Rattle.eid_sm.specs.Keys.{Keys, ChannelState}
 use Rattle.eid_model.specs.declared.kind.Kind.{Kind}
-use Rattle.eid_model.specs.declared.kind.Kind.TheVariants.{SelectApplication, SelectMasterFile, SelectFile, ReadBinary, SelectPace, SelectPublicKey, VerifyCertificate, EncryptedNonce, MapNonce, PerformKeyAgreement, MutualAuthentication, ChangePin, UnblockPin, NoStep}
+use Rattle.eid_model.specs.declared.kind.Kind.TheVariants.{SelectApplication, SelectMasterFile, SelectFile, ReadBinary, SelectPace, SelectPublicKey, VerifyCertificate, AnnounceTerminal, GetChallenge, ExternalAuthenticate, SelectChipAuthentication, EncryptedNonce, MapNonce, PerformKeyAgreement, MutualAuthentication, AuthenticateChip, ChangePin, UnblockPin, NoProtocol, NoStep}
 use Rattle.eid_model.specs.Kinds.{is_by_short, file_of_short, file_of_id}
 use Rattle.eid_model.specs.Moments.{PlainMoment, ends_session}
 use Rattle.eid_model.specs.Chains.{chaining, request_of}
-use Rattle.eid_model.specs.Runs.{kind_done, run, next, Phase, Idle, Chose, SentNonce, HasBase, HasSecret, ChoseKey, phase}
+use Rattle.eid_model.specs.Runs.{kind_done, run, next, Phase, Idle, Chose, SentNonce, HasBase, HasSecret, ChoseKey, phase, answers_of, Context, Authentication, NotBegun, Announced, Challenged, ChoseProtocol, authentication}
 
 -- the kind that the newest moment carried out
 abbrev pub kind_of_moment : PlainMoment → List PlainMoment → Option Kind
@@ -33,12 +37,18 @@ selects ReadBinary = None
 selects SelectPace = None
 selects SelectPublicKey = None
 selects VerifyCertificate = None
+selects AnnounceTerminal = None
+selects GetChallenge = None
+selects ExternalAuthenticate = None
+selects SelectChipAuthentication = None
 selects EncryptedNonce = None
 selects MapNonce = None
 selects PerformKeyAgreement = None
 selects MutualAuthentication = None
+selects AuthenticateChip = None
 selects ChangePin = None
 selects UnblockPin = None
+selects NoProtocol = None
 selects NoStep = None
 
 -- two bytes as one number, big-endian
@@ -54,12 +64,18 @@ names ReadBinary c = if is_by_short c then file_of_short (c.p1 - 0x80) else None
 names SelectPace c = None
 names SelectPublicKey c = None
 names VerifyCertificate c = None
+names AnnounceTerminal c = None
+names GetChallenge c = None
+names ExternalAuthenticate c = None
+names SelectChipAuthentication c = None
 names EncryptedNonce c = None
 names MapNonce c = None
 names PerformKeyAgreement c = None
 names MutualAuthentication c = None
+names AuthenticateChip c = None
 names ChangePin c = None
 names UnblockPin c = None
+names NoProtocol c = None
 names NoStep c = None
 
 abbrev pub selection : Option Kind → Option Bool
@@ -97,12 +113,18 @@ pace_done ReadBinary phase = None
 pace_done SelectPace phase = None
 pace_done SelectPublicKey phase = None
 pace_done VerifyCertificate phase = None
+pace_done AnnounceTerminal phase = None
+pace_done GetChallenge phase = None
+pace_done ExternalAuthenticate phase = None
+pace_done SelectChipAuthentication phase = None
 pace_done EncryptedNonce phase = None
 pace_done MapNonce phase = None
 pace_done PerformKeyAgreement phase = None
 pace_done MutualAuthentication phase = done_with phase
+pace_done AuthenticateChip phase = None
 pace_done ChangePin phase = None
 pace_done UnblockPin phase = None
+pace_done NoProtocol phase = None
 pace_done NoStep phase = None
 
 abbrev pub pace_by : Option Kind → Phase → Option PlainDone
@@ -118,12 +140,45 @@ abbrev pub pace : List PlainMoment → Option PlainDone
 pace [] = None
 pace (m ∷ before) = option_or (pace_completed m before) (pace before)
 
--- the keys that the newest moment opened a channel with: those of the PACE that it completed
+-- the keys of secure messaging that a PACE agreed
 abbrev pub keys_of : PlainDone → Keys
 keys_of done = record { enc = done.enc; mac = done.mac }
 
+-- and those that a chip authentication agreed, by its nonce and its secret
+abbrev pub keys_agreed : List Answer → Option Keys
+keys_agreed (answers.Challenge nonce ∷ answers.Shared shared ∷ []) = Some (record { enc = enc_key shared nonce; mac = mac_key shared nonce })
+keys_agreed answers = None
+
+-- the keys with which a kind opens a channel
+abbrev pub keys_by : Kind → List Answer → Phase → Option Keys
+keys_by SelectApplication given phase = None
+keys_by SelectMasterFile given phase = None
+keys_by SelectFile given phase = None
+keys_by ReadBinary given phase = None
+keys_by SelectPace given phase = None
+keys_by SelectPublicKey given phase = None
+keys_by VerifyCertificate given phase = None
+keys_by AnnounceTerminal given phase = None
+keys_by GetChallenge given phase = None
+keys_by ExternalAuthenticate given phase = None
+keys_by SelectChipAuthentication given phase = None
+keys_by EncryptedNonce given phase = None
+keys_by MapNonce given phase = None
+keys_by PerformKeyAgreement given phase = None
+keys_by MutualAuthentication given phase = option_map keys_of (done_with phase)
+keys_by AuthenticateChip given phase = keys_agreed given
+keys_by ChangePin given phase = None
+keys_by UnblockPin given phase = None
+keys_by NoProtocol given phase = None
+keys_by NoStep given phase = None
+
+abbrev pub keys_with : Option Kind → List Answer → Phase → Option Keys
+keys_with None given phase = None
+keys_with (Some kind) given phase = keys_by kind given phase
+
+-- the keys that the newest moment opened a channel with
 abbrev pub opened : PlainMoment → List PlainMoment → Option Keys
-opened m before = option_map keys_of (pace_completed m before)
+opened m before = keys_with (kind_of_moment m before) (answers_of m.asks) (phase (run before))
 
 -- the keys of the channel that was opened last
 abbrev pub channel_keys : List PlainMoment → Option Keys
@@ -155,12 +210,18 @@ accepts ReadBinary c = None
 accepts SelectPace c = None
 accepts SelectPublicKey c = None
 accepts VerifyCertificate c = option_map (λ certificate. certificate.body) (certificate_in c.body)
+accepts AnnounceTerminal c = None
+accepts GetChallenge c = None
+accepts ExternalAuthenticate c = None
+accepts SelectChipAuthentication c = None
 accepts EncryptedNonce c = None
 accepts MapNonce c = None
 accepts PerformKeyAgreement c = None
 accepts MutualAuthentication c = None
+accepts AuthenticateChip c = None
 accepts ChangePin c = None
 accepts UnblockPin c = None
+accepts NoProtocol c = None
 accepts NoStep c = None
 
 abbrev pub accepted_by : Option Kind → Option PlainCommand → Option PlainBody
@@ -222,6 +283,89 @@ chain_left accepted = record {
   sectors = sectors_of (last_terminal accepted);
 }
 
+-- ---- the terminal that has authenticated itself
+
+-- by its challenge, which it signed
+abbrev pub known_after : Authentication → Option PlainTerminalKnown
+known_after NotBegun = None
+known_after (Announced identity announced) = None
+known_after (Challenged identity challenged) = Some (known_by challenged)
+known_after (ChoseProtocol chosen) = None
+
+-- the terminal that a kind makes known where it is carried out
+abbrev pub makes_known : Kind → Authentication → Option PlainTerminalKnown
+makes_known SelectApplication before = None
+makes_known SelectMasterFile before = None
+makes_known SelectFile before = None
+makes_known ReadBinary before = None
+makes_known SelectPace before = None
+makes_known SelectPublicKey before = None
+makes_known VerifyCertificate before = None
+makes_known AnnounceTerminal before = None
+makes_known GetChallenge before = None
+makes_known ExternalAuthenticate before = known_after before
+makes_known SelectChipAuthentication before = None
+makes_known EncryptedNonce before = None
+makes_known MapNonce before = None
+makes_known PerformKeyAgreement before = None
+makes_known MutualAuthentication before = None
+makes_known AuthenticateChip before = None
+makes_known ChangePin before = None
+makes_known UnblockPin before = None
+makes_known NoProtocol before = None
+makes_known NoStep before = None
+
+abbrev pub made_known : Option Kind → Authentication → Option PlainTerminalKnown
+made_known kind before = option_and_then (λ k. makes_known k before) kind
+
+-- the terminal known behind a command, which may have completed a PACE, or made one known
+abbrev pub terminal_behind : Option PlainDone → Option PlainTerminalKnown → Option PlainTerminalKnown → Option PlainTerminalKnown
+terminal_behind None known before = option_or known before
+terminal_behind (Some done) known before = None
+
+-- what a session found of this PACE, these certificates, and this terminal
+abbrev pub context_of : Option PlainDone → List Accepted → Option PlainTerminalKnown → Context
+context_of done accepted terminal =
+    record { identity = option_map (λ d. d.identity) done; certificates = chain_left accepted; terminal = terminal }
+
+-- the terminal known after the newest moment of a session, by the certificates and the terminal before it
+abbrev pub terminal_more : PlainMoment → List PlainMoment → List Accepted → Option PlainTerminalKnown → Option PlainTerminalKnown
+terminal_more m session accepted before =
+    if ends_session m then None
+    else terminal_behind (pace_completed m session)
+    (made_known (kind_of_moment m session) (authentication (context_of (pace session) accepted before) (run session))) before
+
+-- whether a kind proves the chip, or ends that it counts
+abbrev pub proves_chip : Kind → Option Bool
+proves_chip SelectApplication = None
+proves_chip SelectMasterFile = None
+proves_chip SelectFile = None
+proves_chip ReadBinary = None
+proves_chip SelectPace = None
+proves_chip SelectPublicKey = None
+proves_chip VerifyCertificate = None
+proves_chip AnnounceTerminal = None
+proves_chip GetChallenge = None
+proves_chip ExternalAuthenticate = Some false
+proves_chip SelectChipAuthentication = None
+proves_chip EncryptedNonce = None
+proves_chip MapNonce = None
+proves_chip PerformKeyAgreement = None
+proves_chip MutualAuthentication = Some false
+proves_chip AuthenticateChip = Some true
+proves_chip ChangePin = None
+proves_chip UnblockPin = None
+proves_chip NoProtocol = None
+proves_chip NoStep = None
+
+abbrev pub chip_proof : Option Kind → Option Bool
+chip_proof kind = option_and_then proves_chip kind
+
+-- chip authentication succeeded after the last terminal authentication, and after the last PACE
+abbrev pub chip_proven : List PlainMoment → Bool
+chip_proven [] = false
+chip_proven (m ∷ before) = unwrap_or (chip_proof (kind_of_moment m before)) (chip_proven before)
+
 -- ---- the state
 
 -- What is asked of the last PACE later.
@@ -239,6 +383,8 @@ pub record State : Type 0 where
   pub next : Option Kind
   -- what later steps need of the run
   pub phase : Phase
+  -- what later steps of terminal and chip authentication need of the run
+  pub authentication : Authentication
   -- the application is selected
   pub selected : Bool
   -- the current file
@@ -247,19 +393,26 @@ pub record State : Type 0 where
   pub pace : Option PaceMemory
   -- what the certificates accepted since then leave
   pub certificates : PlainChain
+  -- the terminal that has authenticated itself since then
+  pub terminal : Option PlainTerminalKnown
+  -- the chip has authenticated itself since then
+  pub chip_proven : Bool
   -- the keys and the counter of secure messaging
   pub channel : Option ChannelState
   -- the chain of fragments that is open
   pub chaining : Option OpenChain
 
-abbrev pub state_in : List Accepted → List PlainMoment → State
-state_in accepted session = record {
+abbrev pub state_in : List Accepted → Option PlainTerminalKnown → List PlainMoment → State
+state_in accepted terminal session = record {
   next = next (run session);
   phase = phase (run session);
+  authentication = authentication (context_of (pace session) accepted terminal) (run session);
   selected = selected session;
   current = current session;
   pace = option_map memory_of (pace session);
   certificates = chain_left accepted;
+  terminal = terminal;
+  chip_proven = chip_proven session;
   channel = channel session;
   chaining = chaining session;
 }
@@ -269,10 +422,13 @@ abbrev pub fresh : State
 fresh = record {
   next = None;
   phase = Idle;
+  authentication = NotBegun;
   selected = false;
   current = None;
   pace = None;
   certificates = no_chain;
+  terminal = None;
+  chip_proven = false;
   channel = None;
   chaining = None;
 }

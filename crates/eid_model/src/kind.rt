@@ -15,6 +15,14 @@ pub enum Kind {
     SelectPublicKey,
     /// PSO:Verify Certificate.
     VerifyCertificate,
+    /// MSE:Set AT for terminal authentication: the terminal announces itself.
+    AnnounceTerminal,
+    /// GET CHALLENGE, for terminal authentication.
+    GetChallenge,
+    /// EXTERNAL AUTHENTICATE: the terminal's signature.
+    ExternalAuthenticate,
+    /// MSE:Set AT for chip authentication.
+    SelectChipAuthentication,
     /// The first GENERAL AUTHENTICATE of PACE: the encrypted nonce.
     EncryptedNonce,
     /// The second: the nonce is mapped to a base.
@@ -23,10 +31,14 @@ pub enum Kind {
     PerformKeyAgreement,
     /// The fourth: the tokens are exchanged.
     MutualAuthentication,
+    /// The GENERAL AUTHENTICATE of chip authentication.
+    AuthenticateChip,
     /// RESET RETRY COUNTER with a new PIN.
     ChangePin,
     /// RESET RETRY COUNTER without one: the tries of the PIN are given back.
     UnblockPin,
+    /// An MSE:Set AT that names no protocol of its parameters.
+    NoProtocol,
     /// A step that the run has not come to.
     NoStep,
 }

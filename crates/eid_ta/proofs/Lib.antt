@@ -1,4 +1,4 @@
-mod ObjectFacts
-mod AuxiliaryFacts
-mod EntryFacts
-mod AnnouncementFacts
+pub mod ObjectFacts
+pub mod AuxiliaryFacts
+pub mod EntryFacts
+pub mod AnnouncementFacts

@@ -7,9 +7,12 @@ use Rattle.eid_record.specs.Plain.{PlainRecord}
 use Rattle.eid_trust.specs.Trust.{signer_of}
 use Rattle.eid_model.specs.declared.kind.Kind.TheVariants.{SelectPublicKey, VerifyCertificate}
 use Rattle.eid_model.specs.Bodies.{key_name_in}
-use Rattle.eid_model.specs.Runs.{ChoseKey}
+use Rattle.eid_cvc.specs.Chains.{known_view}
+use Rattle.eid_model.specs.Runs.{ChoseKey, NotBegun}
+use Rattle.eid_chip.proofs.PaceSteps.{moved}
+use Rattle.eid_chip.proofs.Selections.{some_after}
 use Rattle.eid_chip.specs.States.{state}
-use Rattle.eid_chip.specs.Transitions.{state_later, two_messages_later}
+use Rattle.eid_chip.specs.Transitions.{two_messages_later}
 use Rattle.eid_chip.specs.declared.session.Session.{Session}
 use Rattle.eid_chip.proofs.CarriedOut.{carried}
 use Rattle.eid_chip.proofs.CertificateSteps.{key_passes, key_leaves, signs_so, template_so}
@@ -24,9 +27,9 @@ returns-in_default-signer-clause-told c = λ full channel fields.
     let given = template_so c.args.session.memory.pace c.in-Some-pace.pace c.in-Some-pace.is c.if-is_none.ensures in
     let signer : is_some (signer_of full.fields old.certificates name) ≡ true =
     ap (λ (r : PlainRecord). is_some (signer_of r old.certificates name)) fields ∙ signs_so _ _ c.signer.ensures c.in_default-signer.not-None in
-    let passes = key_passes full old command name named given.0 given.1 signer in
+    let passes = key_passes full old command name named given.0 given.1 (some_after known_view c.args.session.memory.terminal ∙ sym c.if-is_some.ensures) signer in
     let out = c.carried_out.ensures.did in
     let written = rw c.unwrap.ensures at c.try_extend_from_slice.ensures.ok in
     let items : c.try_extend_from_slice.new.self.items ≡ name = written ∙ ap (λ (l : List ℕ). l ++ name) c.new-chosen.ensures in
     carried SelectPublicKey full old command c.carried_out.result (plain_reply c.carried_out.new.reply) refl passes out.0 out.3 out.1
-    (ap (λ (s : Session). state s (option_map two_messages_later channel)) out.2 ∙ ap (λ (l : List ℕ). record (state_later old) { next = Some VerifyCertificate; phase = ChoseKey l }) items ∙ key_leaves full old command name named)
+    (ap (λ (s : Session). state s (option_map two_messages_later channel)) out.2 ∙ ap (λ (l : List ℕ). moved (Some VerifyCertificate) (ChoseKey l) NotBegun old) items ∙ key_leaves full old command name named)

@@ -1,6 +1,7 @@
 -- Where no chain is open the command is its request.
 use Rattle.std.proofs.Common.{◌≡◌, false, ap, refl, sym, ◌∙◌, [], Option, None, Some, arith}
 use Rattle.std.specs.Prelude.{is_some}
+use Rattle.eid_model.specs.declared.kind.Kind.{Kind}
 use Rattle.eid_base.specs.declared.codes.Rule.{Rule}
 use Rattle.eid_apdu.specs.Command.{plain_command}
 use Rattle.eid_apdu.specs.Answer.{plain_reply}
@@ -27,5 +28,6 @@ pub returns-clause-reacts : goal.returns-clause-reacts
 returns-clause-reacts g c =
     let command = plain_command c.args.c.now in
     let none = closed c.args.chain.now.pending (sym c.is_open.ensures ∙ c.if-is_open.false) in
-    request_answered c.args.session c.args.chain.now.pending command command c.args.kind c.perform.result (plain_reply c.perform.new.reply) c.args.chain.now.pending _ _
-    (rw none refl) (rw none (omega (arith, c.if-c-gt-MAX_REQUEST.false))) c.requires.last.kind_is c.requires.passes (rw none refl) none c.perform.ensures.performed
+    let named = c.requires.last.kind_is command.body ∙ ap (λ (k : Kind). Some k) (sym c.kind_of-kind.ensures) in
+    request_answered c.args.session c.args.chain.now.pending command command c.kind_of-kind.result c.perform.result (plain_reply c.perform.new.reply) c.args.chain.now.pending _ _
+    (rw none refl) (rw none (omega (arith, c.if-c-gt-MAX_REQUEST.false))) named c.requires.passes (rw none refl) none c.perform.ensures.performed

@@ -1,7 +1,11 @@
 -- The last command of a chain ends its request, or is refused by the rules on requests.
-use Rattle.std.proofs.Common.{◌≡◌, ap, refl, ◌∙◌, List, ℕ, []}
+use Rattle.std.proofs.Common.{◌≡◌, ap, refl, sym, ◌∙◌, List, ℕ, [], Some}
+use Rattle.eid_model.specs.declared.kind.Kind.{Kind}
+use Rattle.eid_model.specs.Kinds.{kind_named}
+use Rattle.eid_chip.specs.States.{next_of}
 use Rattle.eid_base.specs.declared.codes.Rule.{Rule}
-use Rattle.eid_apdu.specs.Command.{plain_command}
+use Rattle.eid_apdu.specs.Command.{PlainCommand, plain_command}
+use Rattle.eid_chip.specs.Naming.{kind_by}
 use Rattle.eid_apdu.specs.Answer.{plain_reply}
 use Rattle.eid_apdu.specs.Chaining.{Collected, request}
 use Rattle.eid_chip.proofs.Outcomes.{broken_request, long_request, request_answered, request_reacts}
@@ -14,8 +18,10 @@ returns-in-Whole-clause-reacts g c =
     let whole : plain_command c.whole_request-request.result ≡ request c.args.chain.now.pending command =
     c.whole_request-request.ensures
     ∙ ap (λ (b : List ℕ). record command { body = b }) (c.body.ensures.value ∙ ap (λ (x : Collected). x.body) c.in-Whole.ensures.held) in
-    request_answered c.args.session c.args.chain.now.pending command (plain_command c.whole_request-request.result) c.args.kind c.perform.result (plain_reply c.perform.new.reply) c.feed.new.self.pending _ _
-    says.0 says.1 c.requires.last.kind_is c.requires.passes whole c.in-Whole.ensures.pending c.perform.ensures.performed
+    let named = ap (kind_named (next_of c.args.session.run)) c.whole_request-request.ensures ∙ c.requires.last.kind_is _
+    ∙ ap (λ (x : PlainCommand). Some (kind_by c.args.last x.body)) (sym c.whole_request-request.ensures) ∙ ap (λ (k : Kind). Some k) (sym c.kind_of-kind.ensures) in
+    request_answered c.args.session c.args.chain.now.pending command (plain_command c.whole_request-request.result) c.kind_of-kind.result c.perform.result (plain_reply c.perform.new.reply) c.feed.new.self.pending _ _
+    says.0 says.1 named c.requires.passes whole c.in-Whole.ensures.pending c.perform.ensures.performed
 
 pub returns-in-Broken-clause-reacts : goal.returns-in-Broken-clause-reacts
 returns-in-Broken-clause-reacts g c =

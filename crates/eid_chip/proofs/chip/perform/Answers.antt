@@ -3,12 +3,13 @@ use Rattle.std.proofs.Common.{refl, ap, sym, ◌∙◌}
 use Rattle.eid_apdu.specs.Command.{plain_command}
 use Rattle.eid_apdu.specs.Answer.{plain_reply}
 use Rattle.eid_base.specs.declared.codes.Rule.{Rule}
-use Rattle.eid_model.specs.declared.kind.Kind.TheVariants.{SelectApplication, SelectMasterFile, SelectFile, ReadBinary, SelectPace, SelectPublicKey, EncryptedNonce, MapNonce, PerformKeyAgreement, NoStep}
+use Rattle.eid_model.specs.declared.kind.Kind.TheVariants.{SelectApplication, SelectMasterFile, SelectFile, ReadBinary, SelectPace, SelectPublicKey, AnnounceTerminal, GetChallenge, ExternalAuthenticate, SelectChipAuthentication, EncryptedNonce, MapNonce, PerformKeyAgreement, AuthenticateChip, NoProtocol, NoStep}
 use Rattle.eid_chip.specs.Held.{held}
 use Rattle.eid_chip.specs.States.{state}
 use Rattle.eid_chip.proofs.HeldFiles.{held_fields}
 use Rattle.eid_chip.proofs.Outcomes.{settled}
 use Rattle.eid_chip.proofs.Unasked.{unasked, no_step}
+use Rattle.eid_chip.proofs.TerminalSteps.{no_protocol}
 use Rattle.eid_chip.proofs.chip.perform.Goals as goal
 
 pub returns-in-SelectApplication-clause-performed : goal.returns-in-SelectApplication-clause-performed
@@ -76,9 +77,52 @@ returns-in-PerformKeyAgreement-clause-performed g c =
     settled _ PerformKeyAgreement c.args.session command c.uncommitted-in-PerformKeyAgreement.result c.perform_key_agreement.result (plain_reply c.perform_key_agreement.new.reply) (g.C.Coprocessor.seen c.args.copro.now) (g.C.Coprocessor.seen c.perform_key_agreement.new.copro) c.args.store.now (g.E.Eeprom.device c.args.cells.now) cells
     c.in-PerformKeyAgreement.is (λ s. refl) c.requires.mounted c.uncommitted-in-PerformKeyAgreement.ensures (c.perform_key_agreement.ensures.told (held cells))
 
+pub returns-in-AnnounceTerminal-clause-performed : goal.returns-in-AnnounceTerminal-clause-performed
+returns-in-AnnounceTerminal-clause-performed g c =
+    let cells = g.E.Eeprom.cells c.args.cells.now in
+    let command = plain_command c.args.c.now in
+    settled _ AnnounceTerminal c.args.session command c.uncommitted-in-AnnounceTerminal.result c.announce_terminal.result (plain_reply c.announce_terminal.new.reply) (g.C.Coprocessor.seen c.args.copro.now) (g.C.Coprocessor.seen c.args.copro.now) c.args.store.now (g.E.Eeprom.device c.args.cells.now) cells
+    c.in-AnnounceTerminal.is (λ s. refl) c.requires.mounted c.uncommitted-in-AnnounceTerminal.ensures (unasked (g.C.Coprocessor.seen c.args.copro.now) AnnounceTerminal (held cells) c.args.session command _ _ (c.announce_terminal.ensures.told (held cells)))
+
+pub returns-in-GetChallenge-clause-performed : goal.returns-in-GetChallenge-clause-performed
+returns-in-GetChallenge-clause-performed g c =
+    let cells = g.E.Eeprom.cells c.args.cells.now in
+    let command = plain_command c.args.c.now in
+    settled _ GetChallenge c.args.session command c.uncommitted-in-GetChallenge.result c.get_challenge.result (plain_reply c.get_challenge.new.reply) (g.C.Coprocessor.seen c.args.copro.now) (g.C.Coprocessor.seen c.get_challenge.new.copro) c.args.store.now (g.E.Eeprom.device c.args.cells.now) cells
+    c.in-GetChallenge.is (λ s. refl) c.requires.mounted c.uncommitted-in-GetChallenge.ensures (c.get_challenge.ensures.told (held cells))
+
+pub returns-in-ExternalAuthenticate-clause-performed : goal.returns-in-ExternalAuthenticate-clause-performed
+returns-in-ExternalAuthenticate-clause-performed g c =
+    let cells = g.E.Eeprom.cells c.args.cells.now in
+    let command = plain_command c.args.c.now in
+    settled _ ExternalAuthenticate c.args.session command c.uncommitted-in-ExternalAuthenticate.result c.external_authenticate.result (plain_reply c.external_authenticate.new.reply) (g.C.Coprocessor.seen c.args.copro.now) (g.C.Coprocessor.seen c.external_authenticate.new.copro) c.args.store.now (g.E.Eeprom.device c.args.cells.now) cells
+    c.in-ExternalAuthenticate.is (λ s. refl) c.requires.mounted c.uncommitted-in-ExternalAuthenticate.ensures (c.external_authenticate.ensures.told (held cells))
+
+pub returns-in-SelectChipAuthentication-clause-performed : goal.returns-in-SelectChipAuthentication-clause-performed
+returns-in-SelectChipAuthentication-clause-performed g c =
+    let cells = g.E.Eeprom.cells c.args.cells.now in
+    let command = plain_command c.args.c.now in
+    settled _ SelectChipAuthentication c.args.session command c.uncommitted-in-SelectChipAuthentication.result c.select_chip_authentication.result (plain_reply c.select_chip_authentication.new.reply) (g.C.Coprocessor.seen c.args.copro.now) (g.C.Coprocessor.seen c.args.copro.now) c.args.store.now (g.E.Eeprom.device c.args.cells.now) cells
+    c.in-SelectChipAuthentication.is (λ s. refl) c.requires.mounted c.uncommitted-in-SelectChipAuthentication.ensures (unasked (g.C.Coprocessor.seen c.args.copro.now) SelectChipAuthentication (held cells) c.args.session command _ _ (c.select_chip_authentication.ensures.told (held cells)))
+
+pub returns-in-AuthenticateChip-clause-performed : goal.returns-in-AuthenticateChip-clause-performed
+returns-in-AuthenticateChip-clause-performed g c =
+    let cells = g.E.Eeprom.cells c.args.cells.now in
+    let fields = held_fields c.args.store.now (g.E.Eeprom.device c.args.cells.now) cells c.requires.mounted ∙ sym c.kept-in-AuthenticateChip.ensures in
+    let command = plain_command c.args.c.now in
+    settled _ AuthenticateChip c.args.session command c.uncommitted-in-AuthenticateChip.result c.authenticate_chip.result (plain_reply c.authenticate_chip.new.reply) (g.C.Coprocessor.seen c.args.copro.now) (g.C.Coprocessor.seen c.authenticate_chip.new.copro) c.args.store.now (g.E.Eeprom.device c.args.cells.now) cells
+    c.in-AuthenticateChip.is (λ s. refl) c.requires.mounted c.uncommitted-in-AuthenticateChip.ensures (c.authenticate_chip.ensures.told (held cells) fields)
+
+pub returns-in-NoProtocol-clause-performed : goal.returns-in-NoProtocol-clause-performed
+returns-in-NoProtocol-clause-performed g c =
+    let cells = g.E.Eeprom.cells c.args.cells.now in
+    let command = plain_command c.args.c.now in
+    settled _ NoProtocol c.args.session command c.uncommitted-in-NoProtocol.result c.refused.result (plain_reply c.refused.new.reply) (g.C.Coprocessor.seen c.args.copro.now) (g.C.Coprocessor.seen c.args.copro.now) c.args.store.now (g.E.Eeprom.device c.args.cells.now) cells
+    c.in-NoProtocol.is (λ s. refl) c.requires.mounted c.uncommitted-in-NoProtocol.ensures (unasked (g.C.Coprocessor.seen c.args.copro.now) NoProtocol (held cells) c.args.session command _ _ (λ channel. no_protocol _ (state c.args.session channel) command c.refused.result (plain_reply c.refused.new.reply) (ap (λ (r : Rule). r.0) c.refused.ensures.rule) c.refused.ensures.reply (c.refused.ensures.left channel)))
+
 pub returns-in-NoStep-clause-performed : goal.returns-in-NoStep-clause-performed
 returns-in-NoStep-clause-performed g c =
     let cells = g.E.Eeprom.cells c.args.cells.now in
     let command = plain_command c.args.c.now in
-    settled _ NoStep c.args.session command c.uncommitted-in-NoStep.result c.refused.result (plain_reply c.refused.new.reply) (g.C.Coprocessor.seen c.args.copro.now) (g.C.Coprocessor.seen c.args.copro.now) c.args.store.now (g.E.Eeprom.device c.args.cells.now) cells
-    c.in-NoStep.is (λ s. refl) c.requires.mounted c.uncommitted-in-NoStep.ensures (unasked (g.C.Coprocessor.seen c.args.copro.now) NoStep (held cells) c.args.session command _ _ (λ channel. no_step _ (state c.args.session channel) command c.refused.result (plain_reply c.refused.new.reply) (ap (λ (r : Rule). r.0) c.refused.ensures.rule) c.refused.ensures.reply (c.refused.ensures.left channel)))
+    settled _ NoStep c.args.session command c.uncommitted-in-NoStep.result c.refused-in-NoStep.result (plain_reply c.refused-in-NoStep.new.reply) (g.C.Coprocessor.seen c.args.copro.now) (g.C.Coprocessor.seen c.args.copro.now) c.args.store.now (g.E.Eeprom.device c.args.cells.now) cells
+    c.in-NoStep.is (λ s. refl) c.requires.mounted c.uncommitted-in-NoStep.ensures (unasked (g.C.Coprocessor.seen c.args.copro.now) NoStep (held cells) c.args.session command _ _ (λ channel. no_step _ (state c.args.session channel) command c.refused-in-NoStep.result (plain_reply c.refused-in-NoStep.new.reply) (ap (λ (r : Rule). r.0) c.refused-in-NoStep.ensures.rule) c.refused-in-NoStep.ensures.reply (c.refused-in-NoStep.ensures.left channel)))
