@@ -223,6 +223,81 @@ const LAST_OF_A_CHAIN: &str = "apdu 0022C1A403830102\n";
 #[rattlefmt::skip]
 const BYTES_128: &str = "0000000000000000000000000000000000000000000000000000000000000000000000000000000000000000000000000000000000000000000000000000000000000000000000000000000000000000000000000000000000000000000000000000000000000000000000000000000000000000000000000000000000000000";
 
+// In the channel of STEP_4 the name of the trust point, and a name that nobody has.
+#[rattlefmt::skip]
+const NAME: &str = "apdu 0c2281b61d8711017561397bfda597330ccedef9ec7447598e08f8e0d4a58ad8327e00\n";
+
+#[rattlefmt::skip]
+const UNKNOWN_NAME: &str = "apdu 0c2281b61d871101d58702485bcf825af17691b0f99dfb818e083102f329b92f4f8700\n";
+
+// There, each behind its issuer's name: a document verifier, a terminal of it that expired on 251231 and one that
+// expires on 260101, which is the chip's date.
+#[rattlefmt::skip]
+const VERIFIER: &str = "apdu 0c2281b61d8711017561397bfda597330ccedef9ec7447598e08f8e0d4a58ad8327e00
+apdu 0c2a00befe8781f10131a0a028a298d3e69aad141d3c40b17c45c6e9decc3841efd4526085fd53710dc0a5436d34b1b8e532bed7ebf0dfadab54f926668ad83a18480290eccc95684dafae713f2b1e2b040dc269f1766a7473b8b5b1a8f205cf6a25a46caa6ff33b1ed9a58f02c14e82bde1801a94119bde882d56b5fc9d4b53adfe9a18065d21f26f9997cb798e7214a551c32bd4e284c41859153c9d09a0a5e33c922d998e752b64c1c2a212d12bb6c21d52bbc053ce28dc0a3d72a2c9fa565197a2e9c8fe0841a8840af20c3d5893e88e8f0cbab66acfe0cc455b7f6fc3d53ac8a73c3735ef82bdcacb5c6ca628152716ab61c0b8ae85f38e083f9a6979dccbdd8500
+";
+
+#[rattlefmt::skip]
+const EXPIRED_TERMINAL: &str = "apdu 0c2281b61d871101402630cd9c79594ea54d15aaa49eb3bb8e0887ff668e57ce747800
+apdu 0c2a00befe8781f101931e2f9ba9717e930ca7e0ec89ad3c7c73995a42739d079fe2c2799a961c64a6e62a9aef59f729a41f8939ead61f0943567cf195c22ba052bbc872438d0ed3adb4ed1b67275c046c0c04ea952eb641f3f18e17ea41706f85e371a375cc76fa80872581f2cdf98cc5f4c6e72561a912bf9c08092ec0e17da490f1653f30c542d3c6ba0a861b92d566da7a2393449bad13d5f7badf3e631b906e965db8903c2666d28e587bf64eab7186423af08ab4c0f066fd58151ce4d15ca66f1badbacbd308f11fcb14553ddbd5e16cf1e40d039eec9213a125ff1c163943310ffb8070a4f51f901d8f12fa6af9d93aa9f86e3cfc308e089872e8c116c54d9700
+";
+
+#[rattlefmt::skip]
+const EXPIRING_TERMINAL: &str = "apdu 0c2281b61d871101f612a319baaa6513584ab6f947ecda0a8e0898e235a9cc2c097300
+apdu 0c2a00befe8781f10128da4e95a4b6b2ef617dc9ea7278a9fda314f40768390e041569fb2b2ff55fdc44f049cca32c2163a85e0c9712f2dbf1fb9b68e57a88fe5ad5c08434705bceb48335175467d8e7bddfacad53c07afc1ea429f480b17e69fa70dc00cb78afb7efc96c89307994bfdfa8d5505380cc7b9ea65e00a4698fd37ccd2909ea13df02879e3545ca51646deec58bbfa89d2a837afcbef14a78037bd5c5e7b6742de4b65d895f5d201ed53dec585e05afb802c848f66f31f81640687274a481af162e6dbb925e41ed4e38904844db848fa0a859117e52f54596b3fadf0379e7ba856fd9bd5005a4097d676062171d78ab0a86c35a8e086c8c12711875ccda00
+";
+
+// A link that is effective from 260301, though it expired on 250101, and behind it a document verifier that expired on
+// 260228.
+#[rattlefmt::skip]
+const LATER_LINK: &str = "apdu 0c2281b61d8711017561397bfda597330ccedef9ec7447598e08f8e0d4a58ad8327e00
+apdu 0c2a00befe8781f10131a0a028a298d3e69aad141d3c40b17c45c6e9decc3841efd4526085fd53710dc0a5436d34b1b8e532bed7ebf0dfadab54f926668ad83a18480290eccc95684dd869b0bbde91245356ea28c22634b64023f11b827df56de928b3b0eed488b470730eb54f24a606cdcde327dbbbed028090e4aad46d287fe38448496f1fac784044a87334d9cb7002c43940cc79e4cdeeebac7c400ece128f29120504ed5fe42628e9a73aa87a1f70c570b1b245b1e356ba72fce64d39c066f3def1f111553521d4dbcc45d2271a8b376f067728454a20133989e07f908d3c59f8232bdf5b3272b053637df6ea5be5b022ac41531a45408e08e8c9152b4bc93dbc00
+";
+
+#[rattlefmt::skip]
+const EXPIRED_VERIFIER: &str = "apdu 0c2281b61d871101b13d1ac08e35ccdaa788805b611cabce8e0809d6c87968f3b4c700
+apdu 0c2a00befe8781f101c787f71ffc76ebd244b151c74d490f341b282523d885e5c6680ad8ba5070ab12fb32d0f88e38980fb4728c07d09cebdb1cfb987bd2bfcff3a52eb4de53240afac19c34b8d87edb7e006d11d51a496586b9a1a6729e2f47276588ca868c6cd9f3f91ea8d373e78ec6139a4e101b0ffbb6ab949cfed3d6a51e012d65eb3792e54b77dcf988125a323d2e0ca21d56101a2e285817ed21a72e087a04ed9d83a9ebb515f64b46af9522c45bc6d254a9d6bfcaa14a8fc2653b88be105d80d62428f08c47add1192b2a03ed0672607ae2638a5670789efe303f792d4cbfa0a4e451453e69be5ac03f1e578d350d7eaf66f13ace8e080e0a7b25efabfb3100
+";
+
+// A link that is effective from 240101, and behind it two more of the same trust point, which is the previous one then.
+#[rattlefmt::skip]
+const LINK: &str = "apdu 0c2281b61d8711017561397bfda597330ccedef9ec7447598e08f8e0d4a58ad8327e00
+apdu 0c2a00befe8781f10131a0a028a298d3e69aad141d3c40b17c45c6e9decc3841efd4526085fd53710dc0a5436d34b1b8e532bed7ebf0dfadab54f926668ad83a18480290eccc95684dd869b0bbde91245356ea28c22634b64023f11b827df56de928b3b0eed488b470730eb54f24a606cdcde327dbbbed028090e4aad46d287fe38448496f1fac784044a87334d9cb7002c43940cc79e4cdee05b98888b5887131868f2a3b46c076a2b1b844a9ab5e1baec2fce24f83a415d0ac809dece25ada4a3c62058cbb6a861be925c37ecd06fed7664003979d50b7adbba3ac4c385728e0873c9295f4f6475e541cea45f0f27028e2c6d9bb7a5ab1e08e0834f28d298a302bfa00
+";
+
+#[rattlefmt::skip]
+const LINK_TO_A_THIRD_NAME: &str = "apdu 0c2281b61d871101b13d1ac08e35ccdaa788805b611cabce8e0809d6c87968f3b4c700
+apdu 0c2a00befe8781f101c787f71ffc76ebd244b151c74d490f341b282523d885e5c6680ad8ba5070ab12fb32d0f88e38980fb4728c07d09cebdb1cfb987bd2bfcff3a52eb4de53240afa4a62da507224a7809857e82435a4d6ad59848a06fcbfdcd837fff3188f51a5c9812c17d67257ec04a3f31e553d008d700a192632d8a25600630508fb7345cc06562f29ce6c791c34bb1175b082c246b4d993a372457f1b4d7f9f69f7e4446cd0403b77530ff6c03909998725ebbe18a745f23b18989fa0f3189d60c8b7e2f988b3c84d644dd7ffde80b6679b79922fc4f880962f3a871e9e68c097075056a564c6726628c4c160e66cfeb49058f91fcf8e0847d091b50b328b3a00
+";
+
+#[rattlefmt::skip]
+const LINK_TO_THE_SAME_NAME: &str = "apdu 0c2281b61d871101b13d1ac08e35ccdaa788805b611cabce8e0809d6c87968f3b4c700
+apdu 0c2a00befe8781f101c787f71ffc76ebd244b151c74d490f341b282523d885e5c6680ad8ba5070ab12fb32d0f88e38980fb4728c07d09cebdb1cfb987bd2bfcff3a52eb4de53240afa4a62da507224a7809857e82435a4d6ad59848a06fcbfdcd837fff3188f51a5c9812c17d67257ec04a3f31e553d008d7021e224bdc3121be9c79a6985cd8279dcced56dc4806462f62133472871b3bbca282f44aba38757200c0aee791efec723030ad252776de130b0bf2f49a37b0f91149e830295394b10fd05e309140c578f0f8eb8ce61a20c56f0eb4adcb0a08b6d62b4bcc31f9917c28856de6dfe29e6e408d0e469d1aaec4757529ba68809f2d78e08faa920146111ab1800
+";
+
+// PACE with the CAN in a session of its own: its answer tells both trust points.
+#[rattlefmt::skip]
+const CAN_AGAIN: &str = "on
+apdu 0022c1a424800a04007f000702020402028301027f4c12060904007f00070301020253050000009807
+apdu 10860000027c0000
+apdu 10860000457c43814104000000000000000000000000000000000000000000000000c6b02ba5bf79ecbf000000000000000000000000000000000000000000000000000000000000000000
+apdu 10860000457c43834104000000000000000000000000000000000000000000000000563ca950a629eaa6000000000000000000000000000000000000000000000000000000000000000000
+apdu 008600000c7c0a850890f76db1e585942000
+";
+
+#[rattlefmt::skip]
+const CAN_AGAIN_TOLD: &str = " rule 0
+ answer 9000
+ rule 0
+ answer 7c128010e3c41b20b16d01f4cf739555f6e91ecf9000
+ rule 0
+ answer 7c43824104000000000000000000000000000000000000000000000000fcb7aa8e3e7ab77d00000000000000000000000000000000000000000000000000000000000000009000
+ rule 0
+ answer 7c43844104000000000000000000000000000000000000000000000000e4953eb9f423a8e600000000000000000000000000000000000000000000000000000000000000009000
+ rule 0
+ answer 7c288608a4353bc9d04e5592870d44454356434141543030303032880d444543564341415430303030319000
+";
+
 /// What is sent behind a power on, and what it comes to.
 struct Session {
     /// What the row shows.
@@ -415,6 +490,72 @@ const LONG_SESSIONS: [Session; 2] = [
     },
 ];
 
+/// Those with names and certificates.
+#[rattlefmt::skip]
+const CERTIFICATES: [Session; 5] = [
+    Session {
+        shows: "behind a fragment of MSE:Set AT, MSE:Set DST is refused, and ends the chain", config: ACCESS, said: RUN, answers: &[],
+        with: Password::Can, sent: 0, carried_out: 0,
+        more: &["apdu 1022C1A40C800A04007F00070202040202\napdu 002281B603830102\n", LAST_OF_A_CHAIN],
+        told: &[DONE, " rule 7\n answer 6883\n", " rule 10\n answer 6a80\n"],
+        kept: true,
+    },
+    Session {
+        shows: "after PACE without a template no name is selected", config: ACCESS, said: RUN, answers: &[],
+        with: Password::Puk, sent: 5, carried_out: 5,
+        more: &[NAME],
+        told: &[" rule 21\n answer 6985\n"],
+        kept: true,
+    },
+    Session {
+        shows: "a name that nobody has is refused", config: ACCESS, said: RUN, answers: &[],
+        with: Password::Can, sent: 5, carried_out: 5,
+        more: &[UNKNOWN_NAME],
+        told: &[" rule 23\n answer 6a88\n"],
+        kept: true,
+    },
+    Session {
+        shows: "a terminal that expired is refused, one that expires today accepted without a commit", config: ACCESS, said: RUN, answers: &[],
+        with: Password::Can, sent: 5, carried_out: 5,
+        more: &[VERIFIER, EXPIRED_TERMINAL, EXPIRING_TERMINAL],
+        told: &[DONE, DONE, DONE, " rule 45\n answer 6300\n", DONE, DONE],
+        kept: true,
+    },
+    Session {
+        shows: "a link that is effective later moves the date on", config: ACCESS, said: RUN, answers: &[],
+        with: Password::Can, sent: 5, carried_out: 5,
+        more: &[LATER_LINK, EXPIRED_VERIFIER],
+        told: &[DONE, DONE, DONE, " rule 45\n answer 6300\n"],
+        kept: false,
+    },
+];
+
+/// Those with links.
+#[rattlefmt::skip]
+const LINKS: [Session; 3] = [
+    Session {
+        shows: "a link that has expired becomes the current trust point, and the one before it the previous", config: ACCESS, said: RUN, answers: &[],
+        with: Password::Can, sent: 5, carried_out: 5,
+        more: &[LINK, CAN_AGAIN],
+        told: &[DONE, DONE, CAN_AGAIN_TOLD],
+        kept: false,
+    },
+    Session {
+        shows: "a link of the previous trust point to a third name is refused", config: ACCESS, said: RUN, answers: &[],
+        with: Password::Can, sent: 5, carried_out: 5,
+        more: &[LINK, LINK_TO_A_THIRD_NAME],
+        told: &[DONE, DONE, DONE, " rule 44\n answer 6300\n"],
+        kept: false,
+    },
+    Session {
+        shows: "a link to the name of the current one changes nothing", config: ACCESS, said: RUN, answers: &[],
+        with: Password::Can, sent: 5, carried_out: 5,
+        more: &[LINK, LINK_TO_THE_SAME_NAME, CAN_AGAIN],
+        told: &[DONE, DONE, DONE, DONE, CAN_AGAIN_TOLD],
+        kept: false,
+    },
+];
+
 /// The lines of a trace that have a rule or an answer.
 fn rules_and_answers(rt: &HostRuntime, trace: &[u8]) -> Result<Vec<u8>, AllocError> {
     let mut told = Vec::new(rt.alloc());
@@ -479,6 +620,22 @@ fn each_command_has_its_rule_and_answer(rt: HostRuntime) -> Result<(), Fail> {
 #[test]
 fn each_command_of_a_long_session_has_its_rule_and_answer(rt: HostRuntime) -> Result<(), Fail> {
     for session in &LONG_SESSIONS {
+        assert!(rt; is_so(&rt, session)?, "{}", session.shows);
+    }
+    Ok(())
+}
+
+#[test]
+fn each_name_and_certificate_has_its_rule_and_answer(rt: HostRuntime) -> Result<(), Fail> {
+    for session in &CERTIFICATES {
+        assert!(rt; is_so(&rt, session)?, "{}", session.shows);
+    }
+    Ok(())
+}
+
+#[test]
+fn each_link_has_its_rule_and_answer(rt: HostRuntime) -> Result<(), Fail> {
+    for session in &LINKS {
         assert!(rt; is_so(&rt, session)?, "{}", session.shows);
     }
     Ok(())
