@@ -298,6 +298,105 @@ const CAN_AGAIN_TOLD: &str = " rule 0
  answer 7c288608a4353bc9d04e5592870d44454356434141543030303032880d444543564341415430303030319000
 ";
 
+// Behind MAP_ANSWER the answers to the questions for the chip's own second pair and for the agreed secret.
+#[rattlefmt::skip]
+const LAST_ANSWERS_OF_PACE: &str = "pair 000000000000000000000000000000000000000000000000692865c9a376a1a9 04000000000000000000000000000000000000000000000000ef5a4277298455b90000000000000000000000000000000000000000000000000000000000000000
+agree 000000000000000000000000000000000000000000000000f723a331f121bd3f
+";
+
+// In the channel of STEP_4 and behind VERIFIER a terminal of it.
+#[rattlefmt::skip]
+const TERMINAL: &str = "apdu 0c2281b61d871101402630cd9c79594ea54d15aaa49eb3bb8e0887ff668e57ce747800
+apdu 0c2a00befe8781f101931e2f9ba9717e930ca7e0ec89ad3c7c73995a42739d079fe2c2799a961c64a6e62a9aef59f729a41f8939ead61f0943567cf195c22ba052bbc872438d0ed3adb4ed1b67275c046c0c04ea952eb641f3f18e17ea41706f85e371a375cc76fa80872581f2cdf98cc5f4c6e72561a912bf9c08092ec0e17da490f1653f30c542d3c6ba0a861b92d566da7a2393449bad1395d57c5e6c75ec45379936ae1e49aff20dd684689211953a328537b637f6b0b1bbbb51b133eac905f4024303de7b4cb934df46b20d67a53667cc387167f9fd73da14b8db31b97a6fb5f73bede29fd65b5186a8d66ca5e2b22a5864f1cc46579c8e0837cc8c3d6a1fce0200
+";
+
+// In that channel without certificates: MSE:Set AT of terminal authentication, GET CHALLENGE and EXTERNAL AUTHENTICATE,
+// and both commands of chip authentication.
+#[rattlefmt::skip]
+const ANNOUNCED_EARLY: &str = "apdu 0c2281a44d87410178b57a9fd90d1708890190ab7d3a040d8968b93005667c2e620c61f5301b442f51e526d1791114dd9270b7cc9d80ead90bb4845699afe1598bd2d618cc776d4e8e08d10391876e5879eb00\n";
+
+#[rattlefmt::skip]
+const STEPS_WITHOUT_A_RUN: &str = "apdu 0c8400000d9701008e08661260a9c680c75500
+apdu 0c8200005d87510186d61818a6c9051e345b81cf1e01627793a0f6748418d8033585568cf491de27ed9003f49ba17745880a75f1cb2af29c94861d8558a6376239117c643a7d565cbabfc8e33af491a79f8012180b6dd1e98e08cccfe9944c271a4900
+";
+
+#[rattlefmt::skip]
+const CHIP_EARLY: &str = "apdu 0c2241a41d87110120c3d5734cc7537799b67c19b788474e8e08b9b8fa4203bb0bc600
+apdu 0c86000060875101aac8f5b4e95780694afcfcd3dca75ea0155282f9d13b7e91c2271dec900e55381005e3bc9c8977e9fc19678992b4506ef47326912303d17e2f7d11628114347fc5fab38f513de04056d60ca57ad58ba99701008e08040adf01287da82500
+";
+
+// Behind TERMINAL terminal authentication, what it comes to, and what it does with the verdict no.
+#[rattlefmt::skip]
+const AUTHENTICATED: &str = "apdu 0c2281a44d874101581cdb0a1894531fc6759ea2fb113b4121d9344db5a54bae675e8814137aede14db496c495e87f7aa07591640e40a04a49adcb1d4712e656f7a3022c72e759ad8e08d45fe76d84c4096d00
+apdu 0c8400000d9701008e08c7c61ac8aba5ac2500
+apdu 0c8200005d8751017a7404e5932cf2a2453e135d89957bcc7f453436c04ed51271eed47c4eb58308fa35a2d5bf17b0f0fabd3aed1bfb56d47cf02cdbf272b0cb0387b822e9e4f8407c2785e09c02faafd527c4e4bfcc57118e089d7f5789159276e600
+";
+
+#[rattlefmt::skip]
+const AUTHENTICATED_TOLD: &str = " rule 0
+ answer 9000
+ rule 0
+ answer 8b1ae42fc4b177269000
+ rule 0
+ answer 9000
+";
+
+#[rattlefmt::skip]
+const REFUSED_TOLD: &str = " rule 0
+ answer 9000
+ rule 0
+ answer 8b1ae42fc4b177269000
+ rule 53
+ answer 6300
+";
+
+// Behind the first the name of the trust point, behind the second MSE:Set AT with the name of the document verifier.
+#[rattlefmt::skip]
+const NAME_AFTER_IT: &str = "apdu 0c2281b61d871101ba51759f75f46dbad7fbd22616b8a5798e08b6eebf788681417e00\n";
+
+#[rattlefmt::skip]
+const ANNOUNCED_AS_VERIFIER: &str = "apdu 0c2281a44d87410128fbe65c76672c7f810bb81a771420106781dd372eca449b976c396f8084e91b00c2ec847b34eeb6647bc8946f864f39a09b7d19c3d2859eb9c688ec232108fc8e0899cd3cfd27a4e1e200\n";
+
+// Behind TERMINAL an announcement, GET CHALLENGE, and a READ BINARY.
+#[rattlefmt::skip]
+const NO_CHALLENGE: &str = "apdu 0c2281a44d874101581cdb0a1894531fc6759ea2fb113b4121d9344db5a54bae675e8814137aede14db496c495e87f7aa07591640e40a04a49adcb1d4712e656f7a3022c72e759ad8e08d45fe76d84c4096d00
+apdu 0c8400000d9701008e08c7c61ac8aba5ac2500
+apdu 0cb09d000d9701008e089865126f9cebce9c00
+";
+
+// Behind AUTHENTICATED chip authentication, what it comes to, and a READ BINARY under the keys of PACE.
+#[rattlefmt::skip]
+const CHIP_AUTHENTICATED: &str = "apdu 0c2241a41d8711015079b00516ae591dfbdefa5b8c6c3c9f8e08dcdfbd1a626e201b00
+apdu 0c860000608751011e481668dde90b068cb84bdd4643f331a4aef20278209b07ded141b2d78105f3b444af651dd500c842305ae5b09841b71d5138ee0b148852cc8a0ad856fd4d3ded7ddd6ac88e027bf8eb097a33424eab9701008e08f339b44908d9a97800
+";
+
+#[rattlefmt::skip]
+const CHIP_AUTHENTICATED_TOLD: &str = " rule 0
+ answer 9000
+ rule 0
+ answer 7c14810865be554fa6188b188208e026a359ea88efa59000
+";
+
+#[rattlefmt::skip]
+const UNDER_OLD_KEYS: &str = "apdu 0cb09d000d9701008e081f65eeed53a9c25200\n";
+
+// Behind AUTHENTICATED chip authentication with another point than the announced one, then with that, and under the new
+// keys a READ BINARY and one more selection.
+#[rattlefmt::skip]
+const ANOTHER_POINT: &str = "apdu 0c2241a41d8711015079b00516ae591dfbdefa5b8c6c3c9f8e08dcdfbd1a626e201b00
+apdu 0c860000608751011e481668dde90b068cb84bdd4643f331a4aef20278209b07ded141b2d78105f3063fc051c1e01d7e8816c90c5924630b4d2ec21572dcf50063831024181f1e18517c8974a505756c8aeb78f646a71d709701008e0840f1922e606428b100
+";
+
+#[rattlefmt::skip]
+const CHIP_AUTHENTICATED_THEN: &str = "apdu 0c2241a41d87110140ced267795f22bedb1b0e23f11d33688e08de7458b80b7d9f6700
+apdu 0c860000608751012a32cd501fa3bbbf5cbc6875101e6c70b2920e3d9bd6b2a7454b912ed6379e7eff265c9b7b1947bc38354580476dfc9cd95cc7625efcb3d77c7d7401bd2d7523cffd7942e03f243b6764309e0c21b3f99701008e085e1ba3c927b75a3800
+";
+
+#[rattlefmt::skip]
+const UNDER_NEW_KEYS: &str = "apdu 0cb09d000d9701008e08057bc9e50605027000
+apdu 0c2241a41d87110184d51aca24348703b245b79777e84e038e08b5a4c276f955d97c00
+";
+
 /// What is sent behind a power on, and what it comes to.
 struct Session {
     /// What the row shows.
@@ -556,6 +655,72 @@ const LINKS: [Session; 3] = [
     },
 ];
 
+/// Those with terminal authentication.
+#[rattlefmt::skip]
+const TERMINALS: [Session; 5] = [
+    Session {
+        shows: "without certificates nobody is announced", config: ACCESS, said: RUN, answers: &[],
+        with: Password::Can, sent: 5, carried_out: 5,
+        more: &[ANNOUNCED_EARLY],
+        told: &[" rule 24\n answer 6985\n"],
+        kept: true,
+    },
+    Session {
+        shows: "without an announcement there is no challenge and no signature", config: ACCESS, said: RUN, answers: &[],
+        with: Password::Can, sent: 5, carried_out: 5,
+        more: &[STEPS_WITHOUT_A_RUN],
+        told: &[" rule 9\n answer 6985\n rule 9\n answer 6985\n"],
+        kept: true,
+    },
+    Session {
+        shows: "a terminal is authenticated, and no name is selected behind it", config: ACCESS, said: RUN, answers: &[],
+        with: Password::Can, sent: 5, carried_out: 5,
+        more: &[VERIFIER, TERMINAL, AUTHENTICATED, NAME_AFTER_IT],
+        told: &[DONE, DONE, DONE, DONE, AUTHENTICATED_TOLD, " rule 22\n answer 6985\n"],
+        kept: true,
+    },
+    Session {
+        shows: "the verdict no refuses the terminal; in the channel, which stays open, the name of its verifier is not its own", config: ACCESS, said: REPLAY, answers: &[NONCE_ANSWER, PAIR_ANSWER, MAP_ANSWER, LAST_ANSWERS_OF_PACE, "verify yes\nverify yes\nchallenge 8b1ae42fc4b17726\nverify no\n"],
+        with: Password::Can, sent: 5, carried_out: 5,
+        more: &[VERIFIER, TERMINAL, AUTHENTICATED, ANNOUNCED_AS_VERIFIER],
+        told: &[DONE, DONE, DONE, DONE, REFUSED_TOLD, " rule 25\n answer 6a88\n"],
+        kept: true,
+    },
+    Session {
+        shows: "a missing challenge is a fault, and ends the session", config: ACCESS, said: REPLAY, answers: &[NONCE_ANSWER, PAIR_ANSWER, MAP_ANSWER, LAST_ANSWERS_OF_PACE, "verify yes\nverify yes\n"],
+        with: Password::Can, sent: 5, carried_out: 5,
+        more: &[VERIFIER, TERMINAL, NO_CHALLENGE],
+        told: &[DONE, DONE, DONE, DONE, DONE, " rule 50\n answer 6f00\n rule 4\n answer 6e00\n"],
+        kept: true,
+    },
+];
+
+/// Those with chip authentication.
+#[rattlefmt::skip]
+const CHIPS: [Session; 3] = [
+    Session {
+        shows: "before terminal authentication there is no chip authentication", config: ACCESS, said: RUN, answers: &[],
+        with: Password::Can, sent: 5, carried_out: 5,
+        more: &[CHIP_EARLY],
+        told: &[" rule 26\n answer 6982\n rule 9\n answer 6985\n"],
+        kept: true,
+    },
+    Session {
+        shows: "a point other than the announced one is refused; the announced one changes the keys, and there is no second chip authentication", config: ACCESS, said: RUN, answers: &[],
+        with: Password::Can, sent: 5, carried_out: 5,
+        more: &[VERIFIER, TERMINAL, AUTHENTICATED, ANOTHER_POINT, CHIP_AUTHENTICATED_THEN, UNDER_NEW_KEYS],
+        told: &[DONE, DONE, DONE, DONE, AUTHENTICATED_TOLD, DONE, " rule 41\n answer 6300\n", CHIP_AUTHENTICATED_TOLD, " rule 0\n answer 30009000\n rule 27\n answer 6985\n"],
+        kept: true,
+    },
+    Session {
+        shows: "under the keys before chip authentication a command is refused", config: ACCESS, said: RUN, answers: &[],
+        with: Password::Can, sent: 5, carried_out: 5,
+        more: &[VERIFIER, TERMINAL, AUTHENTICATED, CHIP_AUTHENTICATED, UNDER_OLD_KEYS],
+        told: &[DONE, DONE, DONE, DONE, AUTHENTICATED_TOLD, CHIP_AUTHENTICATED_TOLD, " rule 3\n answer 6988\n"],
+        kept: true,
+    },
+];
+
 /// The lines of a trace that have a rule or an answer.
 fn rules_and_answers(rt: &HostRuntime, trace: &[u8]) -> Result<Vec<u8>, AllocError> {
     let mut told = Vec::new(rt.alloc());
@@ -636,6 +801,22 @@ fn each_name_and_certificate_has_its_rule_and_answer(rt: HostRuntime) -> Result<
 #[test]
 fn each_link_has_its_rule_and_answer(rt: HostRuntime) -> Result<(), Fail> {
     for session in &LINKS {
+        assert!(rt; is_so(&rt, session)?, "{}", session.shows);
+    }
+    Ok(())
+}
+
+#[test]
+fn each_terminal_has_its_rule_and_answer(rt: HostRuntime) -> Result<(), Fail> {
+    for session in &TERMINALS {
+        assert!(rt; is_so(&rt, session)?, "{}", session.shows);
+    }
+    Ok(())
+}
+
+#[test]
+fn each_chip_authentication_has_its_rule_and_answer(rt: HostRuntime) -> Result<(), Fail> {
+    for session in &CHIPS {
         assert!(rt; is_so(&rt, session)?, "{}", session.shows);
     }
     Ok(())
