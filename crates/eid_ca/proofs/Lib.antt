@@ -1,4 +1,2 @@
-pub mod Unasked
-pub mod Twice
 pub mod Tokens
 pub mod Named
