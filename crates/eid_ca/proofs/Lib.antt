@@ -1,4 +1,1 @@
-pub mod Unasked
-pub mod Twice
-pub mod Tokens
 pub mod Named

@@ -2,17 +2,12 @@
 -- drawn, and a secret agreed with the chip's static key and that point.
 use Rattle.std.specs.Prelude.{◌≡◌, ℕ, true, false, List, [], ◌∷◌, Result, Ok, Err}
 use Rattle.std.specs.Str.{bytes_eq}
+use Rattle.eid_cvc.specs.PublicKeys.{x_half}
 use Rattle.eid_copro.specs.declared.ask.Ask.{Ask}
-use Rattle.eid_copro.specs.declared.ask.Question.TheVariants as questions
-use Rattle.eid_copro.specs.declared.ask.Answer.{Answer}
 use Rattle.eid_copro.specs.declared.ask.Answer.TheVariants as answers
-use Rattle.eid_copro.specs.Asking.{agree_ask}
-use Rattle.eid_ca.specs.Keys.{x_half}
+use Rattle.eid_copro.specs.Asking.{challenge_ask, agree_ask}
 use Rattle.eid_ca.specs.Rules.{other_key_rule, fault_rule, no_point_rule}
 use Rattle.eid_ca.specs.States.{PlainCaChosen, PlainProven, proven_by}
-
-abbrev pub challenge_ask : Answer → Ask
-challenge_ask answer = record { question = questions.Challenge; answer = answer }
 
 -- by the X half that is expected, and the point that comes
 pub data ProveEnd (key_x point : List ℕ) : Type 0 where

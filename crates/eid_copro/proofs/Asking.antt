@@ -1,5 +1,6 @@
--- One question, and a question after a pair, as several.
-use Rattle.std.proofs.Common.{◌≡◌, ℕ, ◌||◌, true, false, List, [], ◌∷◌, ◌++◌, refl, ◌∙◌, ap, append_assoc, arith}
+-- No question, one question, and two, as several.
+use Rattle.std.proofs.Common.{◌≡◌, ◌||◌, true, false, List, [], ◌∷◌, ◌++◌, refl, sym, ◌∙◌, ap, append_assoc, arith}
+use Rattle.std.proofs.lemmas.List.{append-nil}
 use Rattle.eid_base.specs.Faults.{Rose}
 use Rattle.eid_copro.specs.Asked.{Asked}
 use Rattle.eid_copro.specs.Seen.{CoproSeen}
@@ -21,6 +22,16 @@ met (answers.Verdict verdict) h = cc
 met (answers.Signed signature) h = cc
 met answers.Fault h = refl
 
+-- a coprocessor that was not asked
+pub not_asked : (copro : CoproSeen) → WereAsked copro copro []
+not_asked copro = record {
+  logged = sym (append-nil copro.log);
+  spent = omega arith;
+  same_told = refl;
+  later = omega arith;
+  cause = λ met. absurd (cc);
+}
+
 pub asked_once : {old new : CoproSeen} {question : Question} {answer : Answer} → Asked old new question answer
     → WereAsked old new (record { question = question; answer = answer } ∷ [])
 asked_once {answer = answer} h = record {
@@ -31,13 +42,14 @@ asked_once {answer = answer} h = record {
   cause = λ e. h.cause (met answer e);
 }
 
-pub asked_twice : {old between new : CoproSeen} {first second : Question} {secret public : List ℕ} {answer : Answer}
-    → Asked old between first (answers.Pair secret public) → Asked between new second answer
-    → WereAsked old new (record { question = first; answer = answers.Pair secret public } ∷ record { question = second; answer = answer } ∷ [])
-asked_twice {old = old} {new = new} {second = second} {answer = answer} h k = record {
+-- a question after one that met no fault
+pub asked_twice : {old between new : CoproSeen} {first second : Question} {given answer : Answer}
+    → Asked old between first given → is_fault given ≡ false → Asked between new second answer
+    → WereAsked old new (record { question = first; answer = given } ∷ record { question = second; answer = answer } ∷ [])
+asked_twice {old = old} {new = new} {second = second} {answer = answer} h fine k = record {
   logged = k.logged ∙ ap (λ (asks : List Ask). asks ++ record { question = second; answer = answer } ∷ []) h.logged ∙ append_assoc old.log _ _;
   spent = omega (arith, h.spent, k.spent);
   same_told = k.same_told ∙ h.same_told;
   later = omega (arith, h.later, k.later);
-  cause = λ e. let rose = k.cause (met answer e) in let goal : Rose old.faults new.faults = omega (arith, rose, h.later) in goal;
+  cause = λ e. let rose = k.cause (met answer (rw fine at e)) in let goal : Rose old.faults new.faults = omega (arith, rose, h.later) in goal;
 }

@@ -19,6 +19,14 @@ map_ask nonce secret peer answer = record { question = questions.Map nonce secre
 abbrev pub agree_ask : List ℕ → List ℕ → Answer → Ask
 agree_ask secret peer answer = record { question = questions.Agree secret peer; answer = answer }
 
+-- the challenge that a terminal is to sign
+abbrev pub challenge_ask : Answer → Ask
+challenge_ask answer = record { question = questions.Challenge; answer = answer }
+
+-- whether that is the key's signature of the digest
+abbrev pub verify_ask : (key digest signature : List ℕ) → Answer → Ask
+verify_ask key digest signature answer = record { question = questions.Verify key digest signature; answer = answer }
+
 abbrev pub is_fault : Answer → Bool
 is_fault answers.Fault = true
 is_fault answer = false

@@ -4,6 +4,8 @@ use Rattle.std.proofs.lemmas.Bool.{cases_lt, false≢true}
 use Rattle.std.specs.Prelude.{IfSome, option_map}
 use Rattle.eid_bits.specs.Date.{is_date}
 use Rattle.eid_bits.specs.Identifiers.{known_bytes}
+use Rattle.eid_bits.specs.declared.identifier.Known.{Known}
+use Rattle.eid_bits.specs.declared.identifier.Known.TheVariants as known
 use Rattle.eid_bits.specs.declared.identifier.Known.TheVariants.{AtTemplate, Sector, TaSha256}
 use Rattle.eid_tlv.specs.Objects.{object, tag_bytes, length_bytes}
 use Rattle.eid_tlv.proofs.Forms.{tag_bytes-one, length_bytes-one, length_bytes-two}
@@ -48,11 +50,36 @@ longer tag value most short fits = elim (cases_lt (length value) 128) [
       omega (arith, object_size tag value, tag_size tag)
 ]
 
+-- an identifier has at most ten bytes
+short_identifier : (identifier : Known) → length (known_bytes identifier) ≤ 10
+short_identifier known.Application = omega arith
+short_identifier known.PaceAes128 = omega arith
+short_identifier known.PaceAes256 = omega arith
+short_identifier known.CaAes128 = omega arith
+short_identifier known.CaAes256 = omega arith
+short_identifier known.TaSha256 = omega arith
+short_identifier known.RiSha256 = omega arith
+short_identifier known.AtTemplate = omega arith
+short_identifier known.Birth = omega arith
+short_identifier known.Expiry = omega arith
+short_identifier known.Community = omega arith
+short_identifier known.Sector = omega arith
+
+-- the objects of a public key
+pub identifier_size : (identifier : Known) → length (object 0x06 (known_bytes identifier)) ≤ 12
+identifier_size identifier = one_byte 0x06 (known_bytes identifier) 10 (omega arith) (short_identifier identifier) (omega arith)
+
+pub point_size : (point : List ℕ) → length point ≡ 65 → length (object 0x86 point) ≤ 67
+point_size point long = one_byte 0x86 point 65 (omega arith) (omega (arith, long)) (omega arith)
+
+pub key_size : (value : List ℕ) → length value ≤ 79 → length (object 0x7F49 value) ≤ 82
+key_size value short = two_bytes 0x7F49 value 79 short (omega arith)
+
 public_key_size : (key : List ℕ) → length key ≡ 65 → length (public_key TaSha256 no_domain key) ≤ 79
 unfolding public_key parameters
 public_key_size key long =
-    let identifier = one_byte 0x06 (known_bytes TaSha256) 10 (omega arith) (omega arith) (omega arith) in
-    let point = one_byte 0x86 key 65 (omega arith) (omega (arith, long)) (omega arith) in
+    let identifier = identifier_size TaSha256 in
+    let point = point_size key long in
     let both = object 0x06 (known_bytes TaSha256) ++ object 0x86 key in
     let is : public_key TaSha256 no_domain key ≡ both ++ [] = ap (λ (o : List ℕ). o ++ []) (append_assoc (object 0x06 (known_bytes TaSha256)) [] (object 0x86 key)) in
     let size : length (public_key TaSha256 no_domain key) ≡ length both + 0 = ap length is ∙ length-append both [] in
@@ -106,7 +133,7 @@ unfolding body_value
 value_size b is =
     let profile = two_bytes 0x5F29 (0 ∷ []) 1 (omega arith) (omega arith) in
     let issuer = one_byte 0x42 b.issuer 16 (omega arith) is.issuer.1 (omega arith) in
-    let key = two_bytes 0x7F49 (public_key TaSha256 no_domain b.key) 79 (public_key_size b.key is.key.size) (omega arith) in
+    let key = key_size (public_key TaSha256 no_domain b.key) (public_key_size b.key is.key.size) in
     let holder = two_bytes 0x5F20 b.holder 16 is.holder.1 (omega arith) in
     let template = two_bytes 0x7F4C (template_value b.template) 18 (template_size b.template is.template) (omega arith) in
     let effective = two_bytes 0x5F25 b.effective 6 (date_size b.effective is.effective) (omega arith) in

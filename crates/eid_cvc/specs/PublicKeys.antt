@@ -1,5 +1,5 @@
 -- Public keys (BSI TR-03110-3): the value of an object 7F49, by writing it.
-use Rattle.std.specs.Prelude.{◌≡◌, ℕ, List, [], ◌++◌, ◌≤◌, length, slice_index, Option, Some, None, IfSome}
+use Rattle.std.specs.Prelude.{◌≡◌, ℕ, List, [], ◌++◌, ◌≤◌, length, slice_index, slice_range, Option, Some, None, IfSome}
 use Rattle.eid_bits.specs.Identifiers.{known_bytes}
 use Rattle.eid_bits.specs.declared.identifier.Known.{Known}
 use Rattle.eid_tlv.specs.Objects.{object}
@@ -31,10 +31,19 @@ parameters d =
 unfoldable pub public_key : Known → Domain → List ℕ → List ℕ
 public_key use_of d point = object 0x06 (known_bytes use_of) ++ parameters d ++ object 0x86 point ++ optional 0x87 d.cofactor
 
+-- the whole object that an authentication token is made over: the identifier of the protocol and an ephemeral point, without
+-- parameters
+unfoldable pub token_object : (protocol point : List ℕ) → List ℕ
+token_object protocol point = object 0x7F49 (object 0x06 protocol ++ object 0x86 point)
+
 -- 65 bytes that begin with 04
 pub record IsPoint (point : List ℕ) : Type 0 where
   pub size : length point ≡ 65
   pub form : slice_index point 0 ≡ 4
+
+-- the X half of a point, its first coordinate
+abbrev pub x_half : List ℕ → List ℕ
+x_half point = slice_range point 1 33
 
 -- it has no value, or one that an object can have
 abbrev pub IsSized : Option (List ℕ) → Type 0

@@ -1,5 +1,5 @@
-//! Card verifiable certificates of terminal authentication (BSI TR-03110-3), and what chip and terminal keep of
-//! them.
+//! Card verifiable certificates of terminal authentication (BSI TR-03110-3), what chip and terminal keep of them, and
+//! the public key that an authentication token is made over.
 #![tactic(auto)]
 
 mod certificate;
@@ -10,6 +10,7 @@ mod public_key;
 mod reading;
 mod tags;
 mod template;
+mod token;
 mod writing;
 
 pub use certificate::{Certificate, CertificateBody, CvcError};
@@ -18,4 +19,5 @@ pub use fronts::{AtFront, front};
 pub use public_key::{law_public_key, read_public_key};
 pub use reading::{law_certificate, law_one_certificate, read_certificate};
 pub use template::{law_template, read_template};
+pub use token::{MAX_TOKEN_OBJECT, token_object};
 pub use writing::{MAX_BODY, MAX_CERTIFICATE, law_written_is_read, write_body, write_certificate};

@@ -1,4 +1,2 @@
-pub mod Unasked
-pub mod Tokens
 pub mod Values
 pub mod SelectionFacts

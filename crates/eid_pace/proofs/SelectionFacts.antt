@@ -8,6 +8,7 @@ use Rattle.eid_tlv.specs.Objects.{Object}
 use Rattle.eid_tlv.specs.Lists.{IsListOf, values}
 use Rattle.eid_tlv.specs.ListIn.{list_in}
 use Rattle.eid_tlv.proofs.ListIn.{list_in-exact}
+use Rattle.eid_tlv.proofs.Findings.{same_values}
 use Rattle.eid_cvc.specs.Templates.{template_in, template_value}
 use Rattle.eid_cvc.proofs.TemplateFacts.{template_complete, template_found}
 use Rattle.eid_pace.specs.Selections.{PlainSelection, IsPaceSelection, HasTemplate}
@@ -15,7 +16,6 @@ use Rattle.eid_pace.specs.Protocols.{protocol_bytes, protocol_with}
 use Rattle.eid_pace.specs.declared.protocol.Protocol.{Protocol}
 use Rattle.eid_pace.specs.declared.protocol.Protocol.TheVariants.{EcdhGmAes128}
 use Rattle.eid_pace.specs.SelectionIn.{protocol_in, reference_in, template_if_any, selection_of, selection_by, selection_in}
-use Rattle.eid_pace.proofs.Values.{same_values}
 
 -- what the values of 7F4C say of the template
 abbrev TemplateIs : List (List ℕ) → Option (List ℕ) → Type 0

@@ -1,9 +1,9 @@
 -- The keys, the tokens and the identity of PACE (BSI TR-03110-3), for AES-128.
-use Rattle.std.specs.Prelude.{ℕ, List, [], ◌++◌, replicate, slice_range}
+use Rattle.std.specs.Prelude.{ℕ, List, [], replicate}
 use Rattle.eid_aes.specs.Cbc.{cbc_encrypted}
 use Rattle.eid_cmac.specs.Cmac.{mac8}
 use Rattle.eid_cmac.specs.Derivation.{derived}
-use Rattle.eid_tlv.specs.Objects.{object}
+use Rattle.eid_cvc.specs.PublicKeys.{token_object, x_half}
 
 -- of a password's digits
 abbrev pub password_key : List ℕ → List ℕ
@@ -20,15 +20,10 @@ enc_key shared = derived shared [] 1
 abbrev pub mac_key : List ℕ → List ℕ
 mac_key shared = derived shared [] 2
 
--- the bytes of a token: the object identifier of the protocol, and the ephemeral point of the side that the
--- token is sent to
-unfoldable pub token_object : (protocol point : List ℕ) → List ℕ
-token_object protocol point = object 0x7F49 (object 0x06 protocol ++ object 0x86 point)
-
--- their MAC
+-- a token: the MAC of the object identifier of the protocol, and of the ephemeral point of the side that the token is sent to
 abbrev pub token : (key protocol point : List ℕ) → List ℕ
 token key protocol point = mac8 key (token_object protocol point)
 
 -- the X half of the chip's ephemeral point
 abbrev pub identity_of : List ℕ → List ℕ
-identity_of point = slice_range point 1 33
+identity_of point = x_half point

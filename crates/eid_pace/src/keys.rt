@@ -7,6 +7,7 @@ use eid_aes::Aes;
 use eid_base::Point;
 use eid_bits::Known;
 use eid_cmac::{derive, mac8};
+use eid_cvc::token_object;
 
 /// The number of the key of encryption.
 const ENCRYPTION: u32 = 1;
@@ -39,30 +40,13 @@ pub fn mac_key(shared: &[u8; 32]) -> [u8; 16]
     derive(shared, &[], MAC)
 }
 
-/// The tag of a public key as a data object, in its two bytes.
-const PUBLIC_KEY: [u8; 2] = [0x7F, 0x49];
-/// The tag of an object identifier.
-const IDENTIFIER: u8 = 0x06;
-/// The tag of a point.
-const POINT: u8 = 0x86;
-/// The length of a point.
-const POINT_SIZE: u8 = 65;
-
 /// The authentication token (BSI TR-03110-3): the first 8 bytes of the MAC under `key` of a public key, which is a
 /// data object 7F49 {06 the object identifier of the protocol, 86 the ephemeral point of the side that the
 /// token is sent to}.
 pub fn token<const ROUNDS: usize>(key: &Aes<ROUNDS>, protocol: Known, point: &Point) -> [u8; 8]
     ensures { result ≡ token key.now (known_bytes protocol) point.now }
 {
-    let identifier = protocol.bytes();
-    let size = identifier.len() as u8;
-    let [first, second] = PUBLIC_KEY;
-    let head = [first, second, 2 + size + 2 + POINT_SIZE, IDENTIFIER, size];
-    let mut tail = [0; 67];
-    tail[0] = POINT;
-    tail[1] = POINT_SIZE;
-    tail[2..].copy_from_slice(point);
-    mac8(key, &head, identifier, &tail)
+    mac8(key, &token_object(protocol, point), &[], &[])
 }
 
 /// The chip's identity in terminal authentication: the X half of its ephemeral point.

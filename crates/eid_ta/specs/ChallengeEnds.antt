@@ -1,15 +1,10 @@
 -- How the second step of terminal authentication can end: a challenge is drawn, and sent.
 use Rattle.std.specs.Prelude.{ℕ, List, [], ◌∷◌, Result, Ok, Err}
 use Rattle.eid_copro.specs.declared.ask.Ask.{Ask}
-use Rattle.eid_copro.specs.declared.ask.Question.TheVariants as questions
-use Rattle.eid_copro.specs.declared.ask.Answer.{Answer}
 use Rattle.eid_copro.specs.declared.ask.Answer.TheVariants as answers
+use Rattle.eid_copro.specs.Asking.{challenge_ask}
 use Rattle.eid_ta.specs.Rules.{fault_rule}
 use Rattle.eid_ta.specs.States.{PlainAnnounced, PlainChallenged}
-
--- a random challenge
-abbrev pub challenge_ask : Answer → Ask
-challenge_ask answer = record { question = questions.Challenge; answer = answer }
 
 -- the challenge that was drawn, if one was
 pub data ChallengeEnd : Type 0 where

@@ -1,8 +1,7 @@
 -- The end that each return is.
 use Rattle.std.proofs.Common.{refl, sym}
-use Rattle.eid_copro.proofs.Asking.{asked_once}
+use Rattle.eid_copro.proofs.Asking.{not_asked, asked_once}
 use Rattle.eid_pace.specs.NonceEnds.{NotStarted, NoNonce, Drawn}
-use Rattle.eid_pace.proofs.Unasked.{not_asked}
 use Rattle.eid_pace.proofs.chosen.Chosen.send_nonce.Goals as goal
 
 pub returns-in-Err : goal.returns-in-Err

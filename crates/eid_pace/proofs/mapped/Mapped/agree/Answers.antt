@@ -14,20 +14,20 @@ returns-then-eq g c = record {
 pub returns-in_default-agree : goal.returns-in_default-agree
 returns-in_default-agree g c = record {
   end = NoAgreement c.in-Ok.pair.0 c.in-Ok.pair.1 (sym c.if-eq.ensures);
-  asked = asked_twice c.in-Ok.ensures c.in_default-agree.ensures;
+  asked = asked_twice c.in-Ok.ensures refl c.in_default-agree.ensures;
   gives = refl;
 }
 
 pub returns-in_default-agreement : goal.returns-in_default-agreement
 returns-in_default-agreement g c = record {
   end = NoSecret c.in-Ok.pair.0 c.in-Ok.pair.1 (sym c.if-eq.ensures);
-  asked = asked_twice c.in-Ok.ensures (rw c.in_default-agreement.is at c.in-Ok-agree.ensures);
+  asked = asked_twice c.in-Ok.ensures refl (rw c.in_default-agreement.is at c.in-Ok-agree.ensures);
   gives = refl;
 }
 
 pub returns : goal.returns
 returns g c = record {
   end = Shared c.in-Ok.pair.0 c.in-Ok.pair.1 c.in-Some.shared (sym c.if-eq.ensures);
-  asked = asked_twice c.in-Ok.ensures (rw c.in-Some.is at c.in-Ok-agree.ensures);
+  asked = asked_twice c.in-Ok.ensures refl (rw c.in-Some.is at c.in-Ok-agree.ensures);
   gives = cc;
 }
