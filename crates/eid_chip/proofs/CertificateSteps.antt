@@ -24,7 +24,7 @@ use Rattle.eid_model.specs.Legal.{AreAsked}
 use Rattle.eid_model.specs.Rules.{RuleRow, kind_rules, answer_rules, commit_rules, proof_rules, first_failed, had_template, is_by_signer, name_chosen, one_effect, to_commit}
 use Rattle.eid_model.specs.Runs.{NotBegun, ChoseKey, answers_of, entered, claimed}
 use Rattle.eid_model.specs.Sessions.{State}
-use Rattle.eid_chip.specs.Steps.{CommitsOne, Imports, IsAnsweredByKind, PlainRefusal, WasRight, known, refusal_by, state_due, state_left, verify_ask}
+use Rattle.eid_chip.specs.Steps.{CommitsOne, Imports, IsAnsweredByKind, PlainRefusal, WasRight, known, refusal_by, state_due, state_left, certificate_ask}
 use Rattle.eid_chip.specs.Transitions.{state_carried_out, state_refused, with_certificates}
 use Rattle.eid_chip.specs.declared.reaction.Reaction.{Reaction}
 use Rattle.eid_copro.specs.Asks.{fits_verify}
@@ -179,7 +179,7 @@ no_more kept old c certificate answer reads = rw reads refl
 
 -- one question, however it is answered
 pub asked_so : (kept : FullRecord) (old : State) (c : PlainCommand) (certificate : PlainCertificate) (a : PlainAccepted) (answer : Answer) → Imports kept old c certificate a → fits_verify answer ≡ true
-    → AreAsked (λ given. question_by kind_rules (known VerifyCertificate kept old c given)) [] (verify_ask certificate a answer ∷ [])
+    → AreAsked (λ given. question_by kind_rules (known VerifyCertificate kept old c given)) [] (certificate_ask certificate a answer ∷ [])
 asked_so kept old c certificate a answer imports fit = (
   question_is kept old c certificate a imports.reads (allowed kept.fields old.certificates (name_chosen old.phase) certificate.body a imports.given),
   fit,
@@ -189,7 +189,7 @@ asked_so kept old c certificate a answer imports fit = (
 -- ---- a right signature
 
 right_commits_at : (kept : FullRecord) (old : State) (c : PlainCommand) (certificate : PlainCertificate) (a : PlainAccepted) (effect : PlainEffect) → Imports kept old c certificate a → a.advance ≡ Some effect
-    → CommitsOne VerifyCertificate kept old c (verify_ask certificate a (answers.Verdict true) ∷ []) effect (Some a.chain)
+    → CommitsOne VerifyCertificate kept old c (certificate_ask certificate a (answers.Verdict true) ∷ []) effect (Some a.chain)
 unfolding entered claimed
 right_commits_at kept old c certificate a effect imports some =
     let may = allowed kept.fields old.certificates (name_chosen old.phase) certificate.body a imports.given in
@@ -219,7 +219,7 @@ bound_passes kept old c given none = rw none refl
 
 unchanged_at : (kept : FullRecord) (old : State) (c : PlainCommand) (certificate : PlainCertificate) (a : PlainAccepted) (r : Reaction) (reply : PlainReply) → Imports kept old c certificate a → a.advance ≡ None
     → r.rule.0 ≡ 0 → reply ≡ status_alone 0x9000 → state_left r old.channel ≡ with_certificates (Some a.chain) (state_refused old)
-    → IsAnsweredByKind VerifyCertificate kept old c (verify_ask certificate a (answers.Verdict true) ∷ []) r reply
+    → IsAnsweredByKind VerifyCertificate kept old c (certificate_ask certificate a (answers.Verdict true) ∷ []) r reply
 unfolding entered claimed
 unchanged_at kept old c certificate a r reply imports none rule answered left =
     let may = allowed kept.fields old.certificates (name_chosen old.phase) certificate.body a imports.given in
@@ -249,7 +249,7 @@ right_undue kept old c a asks was none =
 
 pub wrong_answered : (kept : FullRecord) (old : State) (c : PlainCommand) (certificate : PlainCertificate) (a : PlainAccepted) (r : Reaction) (reply : PlainReply) → Imports kept old c certificate a
     → r.rule.0 ≡ 53 → reply ≡ status_alone 0x6300 → state_left r old.channel ≡ state_due 53 (state_refused old)
-    → IsAnsweredByKind VerifyCertificate kept old c (verify_ask certificate a (answers.Verdict false) ∷ []) r reply
+    → IsAnsweredByKind VerifyCertificate kept old c (certificate_ask certificate a (answers.Verdict false) ∷ []) r reply
 wrong_answered kept old c certificate a r reply imports rule answered left =
     let may = allowed kept.fields old.certificates (name_chosen old.phase) certificate.body a imports.given in
     record {
@@ -265,7 +265,7 @@ wrong_undue kept old c certificate a imports =
 
 pub fault_answered : (kept : FullRecord) (old : State) (c : PlainCommand) (certificate : PlainCertificate) (a : PlainAccepted) (r : Reaction) (reply : PlainReply) → Imports kept old c certificate a
     → r.rule.0 ≡ 50 → reply ≡ status_alone 0x6F00 → state_left r old.channel ≡ state_due 50 (state_refused old)
-    → IsAnsweredByKind VerifyCertificate kept old c (verify_ask certificate a answers.Fault ∷ []) r reply
+    → IsAnsweredByKind VerifyCertificate kept old c (certificate_ask certificate a answers.Fault ∷ []) r reply
 fault_answered kept old c certificate a r reply imports rule answered left =
     let may = allowed kept.fields old.certificates (name_chosen old.phase) certificate.body a imports.given in
     record {

@@ -34,7 +34,7 @@ use Rattle.eid_chip.specs.Transitions.{two_messages_later}
 use Rattle.eid_chip.proofs.HeldFiles.{held_is}
 use Rattle.eid_store.proofs.Laws.{stood_for}
 use Rattle.eid_chip.proofs.Follow.{responded, was_lost}
-use Rattle.eid_pace.proofs.Unasked.{not_asked}
+use Rattle.eid_copro.proofs.Asking.{not_asked}
 
 -- what was sent is what is sent after the message that was incoming
 pub sent_so : (ch : Option ChannelState) (rule : ℕ) (reply : PlainReply) → sent_next (message_in rule ch) rule reply ≡ sent_in ch rule reply

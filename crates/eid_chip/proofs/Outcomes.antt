@@ -35,7 +35,7 @@ use Rattle.eid_chip.specs.Naming.{Passes}
 use Rattle.eid_chip.specs.Steps.{PlainRefusal, refusal_by, known, with_command, outcome_seen, state_left, state_due, Stepped, Performed, IsAnsweredByKind, IsAnsweredByRules, Reacts, IsEnding, IsNext, IsEndedByKind, IsEndedByRules, Responds, rule_of}
 use Rattle.eid_chip.proofs.Commits.{unwritten}
 use Rattle.eid_chip.proofs.HeldFiles.{held_stands}
-use Rattle.eid_pace.proofs.Unasked.{not_asked}
+use Rattle.eid_copro.proofs.Asking.{not_asked}
 
 passed_at : (b : Bool) (row : RuleRow) (rows more : List RuleRow) (s : Situation) → (refusal_by rows s ≡ None → first_failed (rows ++ more) s ≡ first_failed more s) → option_map {U = PlainRefusal} (λ r. record { rule = r.number; status = r.status s }) (if b then Some row else first_failed rows s) ≡ None → (if b then Some row else first_failed (rows ++ more) s) ≡ first_failed more s
 passed_at true row rows more s later e = absurd (cc)

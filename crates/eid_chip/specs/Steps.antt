@@ -10,13 +10,12 @@ use Rattle.eid_copro.specs.Seen.{CoproSeen}
 use Rattle.eid_copro.specs.declared.ask.Ask.{Ask}
 use Rattle.eid_copro.specs.declared.ask.Answer.{Answer}
 use Rattle.eid_copro.specs.declared.ask.Answer.TheVariants as answers
-use Rattle.eid_copro.specs.declared.ask.Question.TheVariants as questions
 use Rattle.sha2.specs.Sha256.{sha256}
 use Rattle.eid_cvc.specs.Certificates.{PlainCertificate}
 use Rattle.eid_cvc.specs.CertificateIn.{certificate_in}
 use Rattle.eid_trust.specs.Trust.{PlainAccepted, accept_given}
 use Rattle.eid_record.specs.Plain.{FullRecord, PlainEffect}
-use Rattle.eid_copro.specs.Asking.{WereAsked}
+use Rattle.eid_copro.specs.Asking.{WereAsked, verify_ask}
 use Rattle.eid_password.specs.Passwords.{active_rule, try_rule, resumed_rule}
 use Rattle.eid_pace.specs.Rules.{fault_rule}
 use Rattle.eid_sm.specs.Keys.{ChannelState, Keys, advanced, next_counter}
@@ -140,9 +139,8 @@ pub record CommitsOne (kind : Kind) (kept : FullRecord) (old : State) (c : Plain
   pub leaves : state_carried_out kept.fields kind c (answers_of asks) old ≡ with_certificates certificates (state_refused old)
 
 -- the question about the signature of a certificate, with its answer
-abbrev pub verify_ask : PlainCertificate → PlainAccepted → Answer → Ask
-verify_ask certificate accepted answer =
-    record { question = questions.Verify accepted.key (sha256 certificate.whole) certificate.signature; answer = answer }
+abbrev pub certificate_ask : PlainCertificate → PlainAccepted → Answer → Ask
+certificate_ask certificate accepted answer = verify_ask accepted.key (sha256 certificate.whole) certificate.signature answer
 
 -- a certificate stands in this command that may be accepted, and this follows from it
 pub record Imports (kept : FullRecord) (old : State) (c : PlainCommand) (certificate : PlainCertificate) (accepted : PlainAccepted) : Type 0 where
@@ -153,7 +151,7 @@ pub record Imports (kept : FullRecord) (old : State) (c : PlainCommand) (certifi
 pub record WasRight (kept : FullRecord) (old : State) (c : PlainCommand) (accepted : PlainAccepted) (asks : List Ask) : Type 0 where
   pub certificate : PlainCertificate
   pub imports : Imports kept old c certificate accepted
-  pub found : asks ≡ verify_ask certificate accepted (answers.Verdict true) ∷ []
+  pub found : asks ≡ certificate_ask certificate accepted (answers.Verdict true) ∷ []
 
 -- the terminal's token stands in this command
 pub record SendsToken (c : PlainCommand) (token : List ℕ) : Type 0 where

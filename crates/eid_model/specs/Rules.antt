@@ -15,7 +15,7 @@ use Rattle.eid_cvc.specs.Chains.{PlainChain, PlainParty, PlainTerminalKnown}
 use Rattle.eid_ta.specs.States.{PlainAnnouncement}
 use Rattle.eid_ta.specs.AnnouncementIn.{announcement_in}
 use Rattle.eid_ta.specs.Rules.{chain_rule, name_rule}
-use Rattle.eid_ca.specs.Keys.{x_half}
+use Rattle.eid_cvc.specs.PublicKeys.{x_half}
 use Rattle.eid_ca.specs.Rules.{other_key_rule}
 use Rattle.eid_ca.specs.Selections.{chosen_in}
 use Rattle.eid_trust.specs.Trust.{selected_rule, role_rule, link_rule, expiry_rule, signer_of, is_issued_by, may_sign, is_link, is_of_current, is_in_date, advance}

@@ -10,7 +10,7 @@ use Rattle.eid_trust.specs.View.{accepted_view}
 use Rattle.eid_model.specs.declared.kind.Kind.TheVariants.{VerifyCertificate}
 use Rattle.eid_chip.specs.Held.{held}
 use Rattle.eid_chip.specs.States.{state}
-use Rattle.eid_chip.specs.Steps.{IsEndedByKind, verify_ask}
+use Rattle.eid_chip.specs.Steps.{IsEndedByKind, certificate_ask}
 use Rattle.eid_chip.specs.Worlds.{world}
 use Rattle.eid_chip.specs.declared.reaction.Ending.{Ending}
 use Rattle.eid_chip.proofs.CertificateSteps.{wrong_answered, wrong_undue, fault_answered, fault_undue}
@@ -22,7 +22,7 @@ returns-in-Ok-true-clause-performed g c = λ command imports.
     let certificate = certificate_view c.args.certificate.now in
     let accepted = accepted_view c.args.accepted in
     record {
-      asks = verify_ask certificate accepted (answers.Verdict true) ∷ [];
+      asks = certificate_ask certificate accepted (answers.Verdict true) ∷ [];
       were_asked = rw (← c.digest-digest.ensures, ← c.in-Ok-true.field-0-test) (asked_once c.in-Ok-true.ensures);
       ended = λ channel. c.enter.ensures.ended _ _ channel command _ (record { certificate = certificate; imports = imports channel; found = refl });
       layout = c.enter.ensures.layout;
@@ -35,7 +35,7 @@ returns-in-Ok-false-clause-performed g c = λ command imports.
     let certificate = certificate_view c.args.certificate.now in
     let accepted = accepted_view c.args.accepted in
     let said = plain_reply c.refused.new.reply in
-    let asks : List Ask = verify_ask certificate accepted (answers.Verdict false) ∷ [] in
+    let asks : List Ask = certificate_ask certificate accepted (answers.Verdict false) ∷ [] in
     let was = world (g.C.Coprocessor.seen c.args.copro.now) c.args.store.now device cells in
     let now = world (g.C.Coprocessor.seen c.verify.new.self) c.args.store.now device cells in
     record {
@@ -56,7 +56,7 @@ returns-in-Err-clause-performed g c = λ command imports.
     let certificate = certificate_view c.args.certificate.now in
     let accepted = accepted_view c.args.accepted in
     let said = plain_reply c.refused-in-Err.new.reply in
-    let asks : List Ask = verify_ask certificate accepted answers.Fault ∷ [] in
+    let asks : List Ask = certificate_ask certificate accepted answers.Fault ∷ [] in
     let was = world (g.C.Coprocessor.seen c.args.copro.now) c.args.store.now device cells in
     let now = world (g.C.Coprocessor.seen c.verify.new.self) c.args.store.now device cells in
     record {

@@ -3,7 +3,7 @@ use Rattle.std.proofs.Common.{[], ap}
 use Rattle.eid_apdu.specs.Command.{plain_command}
 use Rattle.eid_apdu.specs.Answer.{plain_reply}
 use Rattle.eid_base.specs.declared.codes.Rule.{Rule}
-use Rattle.eid_pace.proofs.Unasked.{not_asked}
+use Rattle.eid_copro.proofs.Asking.{not_asked}
 use Rattle.eid_ca.specs.ProveEnds.{prove_asks}
 use Rattle.eid_ca.specs.View.{chosen_view, proven_view}
 use Rattle.eid_chip.specs.States.{authentication_of, state}

@@ -13,7 +13,7 @@ use Rattle.eid_chip.proofs.HeldFiles.{held_fields}
 use Rattle.eid_model.specs.Answers.{status_alone}
 use Rattle.eid_chip.specs.Steps.{PlainRefusal}
 use Rattle.eid_chip.proofs.PaceSteps.{no_empty_body, idle_refused, nonce_refused, nonce_sent, went_on}
-use Rattle.eid_pace.proofs.Unasked.{not_asked}
+use Rattle.eid_copro.proofs.Asking.{not_asked}
 use Rattle.eid_chip.proofs.pace.encrypted_nonce.Goals as goal
 
 pub returns-then-not-is_no_data-clause-told : goal.returns-then-not-is_no_data-clause-told

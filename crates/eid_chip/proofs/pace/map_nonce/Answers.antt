@@ -7,7 +7,7 @@ use Rattle.eid_pace.specs.MapEnds.{map_asks}
 use Rattle.eid_pace.specs.View.{nonce_sent_view, mapped_view}
 use Rattle.eid_chip.specs.States.{state, phase_of}
 use Rattle.eid_chip.proofs.PaceSteps.{no_point_to_map, mapped_to, went_on}
-use Rattle.eid_pace.proofs.Unasked.{not_asked}
+use Rattle.eid_copro.proofs.Asking.{not_asked}
 use Rattle.eid_chip.proofs.pace.map_nonce.Goals as goal
 
 pub returns-in_default-clause-told : goal.returns-in_default-clause-told

@@ -3,7 +3,7 @@ use Rattle.std.proofs.Common.{◌≡◌, [], refl, ap, sym, ◌∙◌, subst}
 use Rattle.eid_apdu.specs.Command.{plain_command}
 use Rattle.eid_apdu.specs.Answer.{plain_reply}
 use Rattle.eid_base.specs.declared.codes.Rule.{Rule}
-use Rattle.eid_pace.proofs.Unasked.{not_asked}
+use Rattle.eid_copro.proofs.Asking.{not_asked}
 use Rattle.eid_model.specs.declared.kind.Kind.TheVariants.{MutualAuthentication}
 use Rattle.eid_model.specs.Rules.{kind_rules}
 use Rattle.eid_model.proofs.Books.{nothing_due_by}

@@ -7,7 +7,7 @@ use Rattle.eid_pace.specs.AgreeEnds.{agree_asks}
 use Rattle.eid_pace.specs.View.{mapped_view, agreed_view}
 use Rattle.eid_chip.specs.States.{state, phase_of}
 use Rattle.eid_chip.proofs.PaceSteps.{no_point_to_agree, agreed_on, went_on}
-use Rattle.eid_pace.proofs.Unasked.{not_asked}
+use Rattle.eid_copro.proofs.Asking.{not_asked}
 use Rattle.eid_chip.proofs.pace.perform_key_agreement.Goals as goal
 
 pub returns-in_default-clause-told : goal.returns-in_default-clause-told

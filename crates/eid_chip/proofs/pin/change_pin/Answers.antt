@@ -3,7 +3,7 @@ use Rattle.std.proofs.Common.{[], refl, ap, ◌∙◌}
 use Rattle.eid_apdu.specs.Command.{plain_command}
 use Rattle.eid_apdu.specs.Answer.{plain_reply}
 use Rattle.eid_base.specs.declared.codes.Rule.{Rule}
-use Rattle.eid_pace.proofs.Unasked.{not_asked}
+use Rattle.eid_copro.proofs.Asking.{not_asked}
 use Rattle.eid_password.specs.Passwords.{is_pin}
 use Rattle.eid_model.specs.declared.kind.Kind.TheVariants.{ChangePin}
 use Rattle.eid_chip.specs.Held.{held}

@@ -3,7 +3,7 @@ use Rattle.std.proofs.Common.{[], refl, ap, sym, ◌∙◌}
 use Rattle.eid_apdu.specs.Command.{plain_command}
 use Rattle.eid_apdu.specs.Answer.{plain_reply}
 use Rattle.eid_base.specs.declared.codes.Rule.{Rule}
-use Rattle.eid_pace.proofs.Unasked.{not_asked}
+use Rattle.eid_copro.proofs.Asking.{not_asked}
 use Rattle.eid_record.specs.Plain.{PlainRecord}
 use Rattle.eid_password.specs.Passwords.{is_puk}
 use Rattle.eid_model.specs.declared.kind.Kind.TheVariants.{UnblockPin}

@@ -5,7 +5,7 @@ use Rattle.eid_apdu.specs.Command.{plain_command}
 use Rattle.eid_apdu.specs.Answer.{plain_reply}
 use Rattle.eid_base.specs.declared.codes.Rule.{Rule}
 use Rattle.eid_cvc.specs.Chains.{known_view}
-use Rattle.eid_pace.proofs.Unasked.{not_asked}
+use Rattle.eid_copro.proofs.Asking.{not_asked}
 use Rattle.eid_ta.specs.VerifyEnds.{verify_asks}
 use Rattle.eid_ta.specs.View.{challenged_view}
 use Rattle.eid_model.specs.Rules.{SIGNATURE_SIZE}
