@@ -1,4 +1,5 @@
 pub mod Template
+pub mod RightNames
 pub mod Rights
 pub mod Date
 pub mod Dates

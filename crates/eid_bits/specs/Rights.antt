@@ -3,7 +3,7 @@ use Rattle.std.specs.Prelude.{ℕ, ◌==◌, Bool, true, false, ◌||◌, List, 
 use Rattle.std.specs.Int.{bit_at}
 use Rattle.eid_bits.specs.Date.{is_between}
 use Rattle.eid_bits.specs.Template.{template_bit}
-use Rattle.eid_bits.specs.declared.template.Bits.{Bits}
+use Rattle.eid_bits.specs.declared.rights.Bits.{Bits}
 use Rattle.eid_bits.specs.declared.template.Role.{Role}
 use Rattle.eid_bits.specs.declared.template.Role.TheVariants.{Cvca, Domestic, Foreign, Terminal}
 

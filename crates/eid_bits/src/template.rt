@@ -1,5 +1,7 @@
-ghost use Rattle.std.specs.Prelude.{◌≡◌, ◌↔◌, ◌==◌, ◌&&◌, ◌<◌, ℕ, length, IsOk, IfOk};
-ghost use Rattle.std.specs.Int.{bit_at};
+ghost use Rattle.std.specs.Prelude.{◌≡◌, ◌↔◌, ◌&&◌, ℕ, length, IsOk, IfOk};
+
+use crate::rights::{Bits, is_set};
+use bitflags::Flags;
 
 /// The bytes are not five.
 #[derive(Clone, Copy, Debug)]
@@ -70,7 +72,7 @@ impl Template {
     pub fn bits(&self) -> Bits
         ensures { (bit : ℕ) → has_right result bit ≡ (is_right bit && template_bit (template_bytes self.now) bit) }
     {
-        Bits(self.number() & RIGHTS)
+        Bits::from_bits_truncate(self.number())
     }
 
     #[tactic(auto, unfolding(crate::specs::Template::template_bit))]
@@ -87,29 +89,4 @@ impl Template {
         let [a, b, c, d, e] = self.bytes;
         u64::from_be_bytes([0, 0, 0, a, b, c, d, e])
     }
-}
-
-/// Bits 0 to 28 and 33 to 37.
-const RIGHTS: u64 = 0x3E_1FFF_FFFF;
-
-/// The rights of a template (BSI TR-03110-4).
-#[derive(Clone, Copy)]
-pub struct Bits(u64);
-
-impl Bits {
-    ghost use Rattle.eid_bits.specs.Rights.{has_right};
-
-    /// Whether the right with this number is among them.
-    pub fn has(self, bit: u32) -> bool
-        ensures { result ≡ has_right self bit }
-    {
-        is_set(self.0, bit)
-    }
-}
-
-/// Whether a bit of a number is set, where bit 0 is the lowest.
-fn is_set(number: u64, bit: u32) -> bool
-    ensures { result ≡ (bit_at number bit == 1) }
-{
-    bit < u64::BITS && number >> bit & 1 == 1
 }

@@ -14,7 +14,9 @@ use Rattle.eid_copro.specs.declared.ask.Answer.TheVariants as answers
 use Rattle.eid_copro.specs.declared.ask.Question.TheVariants as questions
 use Rattle.eid_cvc.specs.Certificates.{PlainBody, PlainCertificate}
 use Rattle.eid_cvc.specs.CertificateIn.{certificate_in}
-use Rattle.eid_cvc.specs.Chains.{PlainChain}
+use Rattle.eid_cvc.specs.Chains.{PlainChain, chain_view}
+use Rattle.eid_cvc.specs.declared.chain.ChainState.{ChainState}
+use Rattle.eid_chip.specs.declared.session.Change.TheVariants.{Certificates}
 use Rattle.eid_record.specs.Plain.{FullRecord, PlainRecord, PlainEffect}
 use Rattle.eid_trust.specs.Trust.{Signer, PlainAccepted, accept_given, accepted_by, judged_by, refusal as refusal_of, selected_rule, role_rule, link_rule, expiry_rule, signer_of, key_of, is_issued_by, is_link, is_of_current, is_in_date, chain_after, advance}
 use Rattle.eid_model.specs.declared.kind.Kind.TheVariants.{SelectPublicKey, VerifyCertificate}
@@ -25,7 +27,7 @@ use Rattle.eid_model.specs.Rules.{RuleRow, kind_rules, answer_rules, commit_rule
 use Rattle.eid_model.specs.Runs.{NotBegun, ChoseKey, answers_of, entered, claimed}
 use Rattle.eid_model.specs.Sessions.{State}
 use Rattle.eid_chip.specs.Steps.{CommitsOne, Imports, IsAnsweredByKind, PlainRefusal, WasRight, known, refusal_by, state_due, state_left, certificate_ask}
-use Rattle.eid_chip.specs.Transitions.{state_carried_out, state_refused, with_certificates}
+use Rattle.eid_chip.specs.Transitions.{state_carried_out, state_refused}
 use Rattle.eid_chip.specs.declared.reaction.Reaction.{Reaction}
 use Rattle.eid_copro.specs.Asks.{fits_verify}
 use Rattle.eid_model.proofs.Books.{nothing_due_by}
@@ -188,10 +190,10 @@ asked_so kept old c certificate a answer imports fit = (
 
 -- ---- a right signature
 
-right_commits_at : (kept : FullRecord) (old : State) (c : PlainCommand) (certificate : PlainCertificate) (a : PlainAccepted) (effect : PlainEffect) → Imports kept old c certificate a → a.advance ≡ Some effect
-    → CommitsOne VerifyCertificate kept old c (certificate_ask certificate a (answers.Verdict true) ∷ []) effect (Some a.chain)
+right_commits_at : (kept : FullRecord) (old : State) (c : PlainCommand) (certificate : PlainCertificate) (a : PlainAccepted) (chain : ChainState) (effect : PlainEffect) → Imports kept old c certificate a → a.chain ≡ chain_view chain → a.advance ≡ Some effect
+    → CommitsOne VerifyCertificate kept old c (certificate_ask certificate a (answers.Verdict true) ∷ []) effect (Certificates chain)
 unfolding entered claimed
-right_commits_at kept old c certificate a effect imports some =
+right_commits_at kept old c certificate a chain effect imports left some =
     let may = allowed kept.fields old.certificates (name_chosen old.phase) certificate.body a imports.given in
     record {
       asked = asked_so kept old c certificate a (answers.Verdict true) imports refl;
@@ -200,12 +202,13 @@ right_commits_at kept old c certificate a effect imports some =
       commits = rw imports.reads (ap one_effect (sym may.advance_is ∙ some));
       proves = refl;
       answers = refl;
-      leaves = rw imports.reads (ap (λ (x : PlainChain). record (state_refused old) { certificates = x }) (sym may.chain_is));
+      leaves = rw imports.reads (ap (λ (x : PlainChain). record (state_refused old) { certificates = x }) (sym may.chain_is ∙ left));
     }
 
-pub right_commits : (kept : FullRecord) (old : State) (c : PlainCommand) (a : PlainAccepted) (asks : List Ask) (effect : PlainEffect) → WasRight kept old c a asks → a.advance ≡ Some effect → CommitsOne VerifyCertificate kept old c asks effect (Some a.chain)
-right_commits kept old c a asks effect was some =
-    subst (λ (l : List Ask). CommitsOne VerifyCertificate kept old c l effect (Some a.chain)) (sym was.found) (right_commits_at kept old c was.certificate a effect was.imports some)
+pub right_commits : (kept : FullRecord) (old : State) (c : PlainCommand) (a : PlainAccepted) (chain : ChainState) (asks : List Ask) (effect : PlainEffect) → WasRight kept old c a asks → a.chain ≡ chain_view chain → a.advance ≡ Some effect
+    → CommitsOne VerifyCertificate kept old c asks effect (Certificates chain)
+right_commits kept old c a chain asks effect was left some =
+    subst (λ (l : List Ask). CommitsOne VerifyCertificate kept old c l effect (Certificates chain)) (sym was.found) (right_commits_at kept old c was.certificate a chain effect was.imports left some)
 
 -- where nothing advances, nothing is due
 commits_nothing : (kept : FullRecord) (old : State) (c : PlainCommand) (certificate : PlainCertificate) (a : PlainAccepted) (given : List Answer) → Imports kept old c certificate a → a.advance ≡ None → to_commit (Some VerifyCertificate) (known VerifyCertificate kept old c given) ≡ []
@@ -218,7 +221,7 @@ bound_passes : (kept : FullRecord) (old : State) (c : PlainCommand) (given : Lis
 bound_passes kept old c given none = rw none refl
 
 unchanged_at : (kept : FullRecord) (old : State) (c : PlainCommand) (certificate : PlainCertificate) (a : PlainAccepted) (r : Reaction) (reply : PlainReply) → Imports kept old c certificate a → a.advance ≡ None
-    → r.rule.0 ≡ 0 → reply ≡ status_alone 0x9000 → state_left r old.channel ≡ with_certificates (Some a.chain) (state_refused old)
+    → r.rule.0 ≡ 0 → reply ≡ status_alone 0x9000 → state_left r old.channel ≡ record (state_refused old) { certificates = a.chain }
     → IsAnsweredByKind VerifyCertificate kept old c (certificate_ask certificate a (answers.Verdict true) ∷ []) r reply
 unfolding entered claimed
 unchanged_at kept old c certificate a r reply imports none rule answered left =
@@ -236,7 +239,7 @@ unchanged_at kept old c certificate a r reply imports none rule answered left =
     }
 
 pub right_unchanged : (kept : FullRecord) (old : State) (c : PlainCommand) (a : PlainAccepted) (asks : List Ask) (r : Reaction) (reply : PlainReply) → WasRight kept old c a asks → a.advance ≡ None
-    → r.rule.0 ≡ 0 → reply ≡ status_alone 0x9000 → state_left r old.channel ≡ with_certificates (Some a.chain) (state_refused old)
+    → r.rule.0 ≡ 0 → reply ≡ status_alone 0x9000 → state_left r old.channel ≡ record (state_refused old) { certificates = a.chain }
     → IsAnsweredByKind VerifyCertificate kept old c asks r reply
 right_unchanged kept old c a asks r reply was none rule answered left =
     subst (λ (l : List Ask). IsAnsweredByKind VerifyCertificate kept old c l r reply) (sym was.found) (unchanged_at kept old c was.certificate a r reply was.imports none rule answered left)

@@ -18,7 +18,7 @@ use Rattle.eid_store.specs.Stands.{stands}
 use Rattle.eid_pace.specs.States.{PlainDone}
 use Rattle.eid_sm.specs.Keys.{Keys, ChannelState, next_counter}
 use Rattle.eid_model.specs.declared.kind.Kind.{Kind}
-use Rattle.eid_model.specs.declared.kind.Kind.TheVariants.{SelectApplication, SelectMasterFile, SelectFile, ReadBinary, SelectPace, SelectPublicKey, VerifyCertificate, AnnounceTerminal, GetChallenge, ExternalAuthenticate, SelectChipAuthentication, EncryptedNonce, MapNonce, PerformKeyAgreement, MutualAuthentication, AuthenticateChip, ChangePin, UnblockPin, NoProtocol, NoStep}
+use Rattle.eid_model.specs.declared.kind.Kind.TheVariants.{SelectApplication, SelectMasterFile, SelectFile, ReadBinary, UpdateBinary, SelectPace, SelectPublicKey, VerifyCertificate, AnnounceTerminal, GetChallenge, ExternalAuthenticate, SelectChipAuthentication, EncryptedNonce, MapNonce, PerformKeyAgreement, MutualAuthentication, AuthenticateChip, ChangePin, UnblockPin, ChangeCan, ActivatePin, DeactivatePin, NoProtocol, NoStep}
 use Rattle.eid_model.specs.Kinds.{kind_in_table, step_after}
 use Rattle.eid_model.specs.Chains.{chain_of, chaining, more_pieces, pieces, request_of}
 use Rattle.eid_model.specs.Moments.{PlainMoment, on, live, ends_session_by}
@@ -73,6 +73,7 @@ run_next SelectApplication c answers steps = refl
 run_next SelectMasterFile c answers steps = refl
 run_next SelectFile c answers steps = refl
 run_next ReadBinary c answers steps = refl
+run_next UpdateBinary c answers steps = refl
 run_next SelectPace c answers steps = refl
 run_next SelectPublicKey c answers steps = refl
 run_next VerifyCertificate c answers steps = refl
@@ -88,6 +89,9 @@ run_next PerformKeyAgreement c answers steps = refl
 run_next MutualAuthentication c answers steps = refl
 run_next ChangePin c answers steps = refl
 run_next UnblockPin c answers steps = refl
+run_next ChangeCan c answers steps = refl
+run_next ActivatePin c answers steps = refl
+run_next DeactivatePin c answers steps = refl
 run_next NoStep c answers steps = refl
 
 run_phase : (kind : Kind) (c : PlainCommand) (answers : List Answer) (steps : List Step) → phase (continued (Some kind) (Some c) answers steps) ≡ entered kind c answers (phase steps)
@@ -96,6 +100,7 @@ run_phase SelectApplication c answers steps = refl
 run_phase SelectMasterFile c answers steps = refl
 run_phase SelectFile c answers steps = refl
 run_phase ReadBinary c answers steps = refl
+run_phase UpdateBinary c answers steps = refl
 run_phase SelectPace c answers steps = refl
 run_phase SelectPublicKey c answers steps = refl
 run_phase VerifyCertificate c answers steps = refl
@@ -111,6 +116,9 @@ run_phase PerformKeyAgreement c answers steps = refl
 run_phase MutualAuthentication c answers steps = refl
 run_phase ChangePin c answers steps = refl
 run_phase UnblockPin c answers steps = refl
+run_phase ChangeCan c answers steps = refl
+run_phase ActivatePin c answers steps = refl
+run_phase DeactivatePin c answers steps = refl
 run_phase NoStep c answers steps = refl
 
 -- ---- the certificates
@@ -138,6 +146,7 @@ run_claim SelectApplication kept c answers last before terminal p steps = refl
 run_claim SelectMasterFile kept c answers last before terminal p steps = refl
 run_claim SelectFile kept c answers last before terminal p steps = refl
 run_claim ReadBinary kept c answers last before terminal p steps = refl
+run_claim UpdateBinary kept c answers last before terminal p steps = refl
 run_claim SelectPace kept c answers last before terminal p steps = refl
 run_claim SelectPublicKey kept c answers last before terminal p steps = refl
 run_claim VerifyCertificate kept c answers last before terminal p steps = refl
@@ -152,6 +161,9 @@ run_claim MutualAuthentication kept c answers last before terminal p steps = ref
 run_claim AuthenticateChip kept c answers last before terminal p steps = refl
 run_claim ChangePin kept c answers last before terminal p steps = refl
 run_claim UnblockPin kept c answers last before terminal p steps = refl
+run_claim ChangeCan kept c answers last before terminal p steps = refl
+run_claim ActivatePin kept c answers last before terminal p steps = refl
+run_claim DeactivatePin kept c answers last before terminal p steps = refl
 run_claim NoProtocol kept c answers last before terminal p steps = refl
 run_claim NoStep kept c answers last before terminal p steps = refl
 

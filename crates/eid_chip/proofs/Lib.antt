@@ -7,7 +7,9 @@ pub mod Bodies
 pub mod PaceSteps
 pub mod CarriedOut
 pub mod Selections
+pub mod RightSteps
 pub mod ReadSteps
+pub mod UpdateSteps
 pub mod Refusals
 pub mod Commits
 pub mod PinSteps

@@ -147,7 +147,7 @@ command_rule kept old c answers o is =
     let later = naming_rules ++ request_rules ++ kind_rules ++ answer_rules ++ commit_rules ++ proof_rules in
     let found : first_failed (transport_rules ++ later) s ≡ first_failed later s = passed transport_rules later s refl in
     ap (λ (x : Outcome). is_on_objects x.rule) (sym is) ∙ ap (λ (f : Option RuleRow). is_on_objects (outcome_by f s).rule) found
-    ∙ others_fail later s (refl, (refl, (refl, (refl, (refl, (refl, (refl, (refl, (refl, (refl, (refl, (refl, (refl, (refl, (refl, (refl, (refl, (refl, (refl, (refl, (refl, (refl, (refl, (refl, (refl, (refl, (refl, (refl, (refl, (refl, (refl, (refl, (refl, (refl, (refl, (refl, _))))))))))))))))))))))))))))))))))))
+    ∙ others_fail later s (refl, (refl, (refl, (refl, (refl, (refl, (refl, (refl, (refl, (refl, (refl, (refl, (refl, (refl, (refl, (refl, (refl, (refl, (refl, (refl, (refl, (refl, (refl, (refl, (refl, (refl, (refl, (refl, (refl, (refl, (refl, (refl, (refl, (refl, (refl, (refl, (refl, (refl, (refl, (refl, (refl, (refl, _))))))))))))))))))))))))))))))))))))))))))
 
 pub command_answered : (old : State) (c : PlainCommand) (asks : List Ask) (ending : Ending) (reply : PlainReply) (left : Option OpenChain) (before after : World) → IsEndedByRules old (OfCommand c) asks ending reply left before after → is_on_objects (rule_of ending) ≡ false
 command_answered old c asks (Answered r finished) reply left before after did = command_rule (held before.cells) old c (answers_of asks) (outcome_seen r reply) did.ended.1
@@ -333,6 +333,15 @@ kind_refused kind kept old c refused r reply fails is_one rule answered left =
             ∙ ap (λ (x : State). state_due r.rule.0 x) (sym (refused_by_kind kept.fields r.rule.0 kind c [] old (ap (λ (n : ℕ). n == 0) rule ∙ is_one)));
       },
     )
+
+-- and that puts no question and commits nothing
+pub refused_unasked : (kind : Kind) (session : Session) (c : PlainCommand) (refused : PlainRefusal) (ending : Ending) (r : Reaction) (reply : PlainReply) (copro : CoproSeen) (store : Store) (device : Device) (cells : List ℕ) → stored.Fits store device cells → ending ≡ Answered r 0
+    → ((channel : Option ChannelState) → (refusal_by kind_rules (known kind (held cells) (state session channel) c []) ≡ Some refused) × ((refused.rule == 0) ≡ false))
+    → r.rule.0 ≡ refused.rule → reply ≡ status_alone refused.status → ((channel : Option ChannelState) → state_left r channel ≡ state_due refused.rule (state_refused (state session channel)))
+    → Performed kind session c ending reply (world copro store device cells) (world copro store device cells)
+refused_unasked kind session c refused ending r reply copro store device cells fits ends tells rule answered left =
+    performed_unasked kind session c ending r reply copro store device cells fits ends (λ channel. let told = tells channel in
+    kind_refused kind (held cells) (state session channel) c refused r reply told.0 told.1 rule answered (left channel))
 
 -- a refusal before the kind is known
 pub refused_ends : (old : State) (incoming : Incoming) (r : Reaction) (reply : PlainReply) (copro : CoproSeen) (store : Store) (device : Device) (cells : List ℕ) → stored.Fits store device cells

@@ -25,7 +25,7 @@ use Rattle.eid_model.specs.declared.kind.Kind.TheVariants.{MutualAuthentication}
 use Rattle.eid_model.specs.Answers.{outcome_of, outcome_by, due_by, status_alone, data_alone}
 use Rattle.eid_model.specs.Bodies.{data_in, holds_value}
 use Rattle.eid_model.specs.Rules.{RuleRow, LAST_NUMBER, kind_rules, answer_rules, commit_rules, proof_rules, first_failed, token_effects, token_status, to_commit, Situation}
-use Rattle.eid_cvc.specs.Chains.{PlainChain}
+use Rattle.eid_chip.specs.declared.session.Change.{Change}
 use Rattle.eid_copro.specs.declared.ask.Ask.{Ask}
 use Rattle.eid_model.specs.Runs.{answers_of, entered, claimed}
 use Rattle.eid_model.specs.Sessions.{State}
@@ -33,7 +33,7 @@ use Rattle.eid_chip.specs.Commits.{WasCutBehind}
 use Rattle.eid_chip.specs.Held.{held}
 use Rattle.eid_chip.specs.States.{state}
 use Rattle.eid_chip.specs.Steps.{CommitsOne, SendsToken, IsEndedByKind, at_tokens, known, state_due, state_left, state_with_pace}
-use Rattle.eid_chip.specs.Transitions.{state_refused, two_messages_later, with_certificates, without_run}
+use Rattle.eid_chip.specs.Transitions.{state_refused, two_messages_later, with_change, without_run}
 use Rattle.eid_chip.specs.Worlds.{world}
 use Rattle.eid_chip.specs.declared.reaction.Ending.TheVariants.{Answered, Lost}
 use Rattle.eid_chip.specs.declared.reaction.Reaction.{Reaction}
@@ -135,67 +135,67 @@ not_pin Puk other = refl
 abbrev found_at : Kind → FullRecord → State → PlainCommand → List Ask → Situation
 found_at kind kept old c asks = known kind kept old c (answers_of asks)
 
-open_rules : (kind : Kind) (kept : FullRecord) (old : State) (c : PlainCommand) (asks : List Ask) (effect : PlainEffect) (chain : Option PlainChain) (more : List RuleRow) → CommitsOne kind kept old c asks effect chain → first_failed (kind_rules ++ answer_rules ++ more) (found_at kind kept old c asks) ≡ first_failed more (found_at kind kept old c asks)
-open_rules kind kept old c asks effect chain more one =
+open_rules : (kind : Kind) (kept : FullRecord) (old : State) (c : PlainCommand) (asks : List Ask) (effect : PlainEffect) (change : Change) (more : List RuleRow) → CommitsOne kind kept old c asks effect change → first_failed (kind_rules ++ answer_rules ++ more) (found_at kind kept old c asks) ≡ first_failed more (found_at kind kept old c asks)
+open_rules kind kept old c asks effect change more one =
     let s = found_at kind kept old c asks in
     passed (kind_rules ++ answer_rules) more s (ap (option_map (λ (row : RuleRow). record { rule = row.number; status = row.status s })) one.passes)
 
-bound_holds : (kind : Kind) (kept : FullRecord) (old : State) (c : PlainCommand) (asks : List Ask) (effect : PlainEffect) (chain : Option PlainChain) (more : List RuleRow) → CommitsOne kind kept old c asks effect chain → nat_le kept.fields.number LAST_NUMBER ≡ true → first_failed (commit_rules ++ more) (found_at kind kept old c asks) ≡ first_failed more (found_at kind kept old c asks)
-bound_holds kind kept old c asks effect chain more one number = rw (one.committing, one.commits, number) refl
+bound_holds : (kind : Kind) (kept : FullRecord) (old : State) (c : PlainCommand) (asks : List Ask) (effect : PlainEffect) (change : Change) (more : List RuleRow) → CommitsOne kind kept old c asks effect change → nat_le kept.fields.number LAST_NUMBER ≡ true → first_failed (commit_rules ++ more) (found_at kind kept old c asks) ≡ first_failed more (found_at kind kept old c asks)
+bound_holds kind kept old c asks effect change more one number = rw (one.committing, one.commits, number) refl
 
-bound_fails : (kind : Kind) (kept : FullRecord) (old : State) (c : PlainCommand) (asks : List Ask) (effect : PlainEffect) (chain : Option PlainChain) (more : List RuleRow) → CommitsOne kind kept old c asks effect chain → nat_le kept.fields.number LAST_NUMBER ≡ false
+bound_fails : (kind : Kind) (kept : FullRecord) (old : State) (c : PlainCommand) (asks : List Ask) (effect : PlainEffect) (change : Change) (more : List RuleRow) → CommitsOne kind kept old c asks effect change → nat_le kept.fields.number LAST_NUMBER ≡ false
     → (is_none (first_failed (commit_rules ++ more) (found_at kind kept old c asks)) ≡ false) × (outcome_by (first_failed (commit_rules ++ more) (found_at kind kept old c asks)) (found_at kind kept old c asks) ≡ record { rule = 54; reply = status_alone 0x6581 })
-bound_fails kind kept old c asks effect chain more one number = (rw (one.committing, one.commits, number) refl, rw (one.committing, one.commits, number) refl)
+bound_fails kind kept old c asks effect change more one number = (rw (one.committing, one.commits, number) refl, rw (one.committing, one.commits, number) refl)
 
 -- the effect and the outcome
-one_due : (kind : Kind) (kept : FullRecord) (old : State) (c : PlainCommand) (asks : List Ask) (effect : PlainEffect) (chain : Option PlainChain) → CommitsOne kind kept old c asks effect chain → nat_le kept.fields.number LAST_NUMBER ≡ true → due_by kind_rules (found_at kind kept old c asks) ≡ effect ∷ []
-one_due kind kept old c asks effect chain one number =
+one_due : (kind : Kind) (kept : FullRecord) (old : State) (c : PlainCommand) (asks : List Ask) (effect : PlainEffect) (change : Change) → CommitsOne kind kept old c asks effect change → nat_le kept.fields.number LAST_NUMBER ≡ true → due_by kind_rules (found_at kind kept old c asks) ≡ effect ∷ []
+one_due kind kept old c asks effect change one number =
     let s = found_at kind kept old c asks in
-    ap (λ (f : Option RuleRow). if is_none f then to_commit (Some kind) s else []) (open_rules kind kept old c asks effect chain commit_rules one ∙ bound_holds kind kept old c asks effect chain [] one number) ∙ one.commits
+    ap (λ (f : Option RuleRow). if is_none f then to_commit (Some kind) s else []) (open_rules kind kept old c asks effect change commit_rules one ∙ bound_holds kind kept old c asks effect change [] one number) ∙ one.commits
 
-one_outcome : (kind : Kind) (kept : FullRecord) (old : State) (c : PlainCommand) (asks : List Ask) (effect : PlainEffect) (chain : Option PlainChain) → CommitsOne kind kept old c asks effect chain → nat_le kept.fields.number LAST_NUMBER ≡ true → outcome_of kind_rules (found_at kind kept old c asks) ≡ record { rule = 0; reply = status_alone 0x9000 }
-one_outcome kind kept old c asks effect chain one number =
+one_outcome : (kind : Kind) (kept : FullRecord) (old : State) (c : PlainCommand) (asks : List Ask) (effect : PlainEffect) (change : Change) → CommitsOne kind kept old c asks effect change → nat_le kept.fields.number LAST_NUMBER ≡ true → outcome_of kind_rules (found_at kind kept old c asks) ≡ record { rule = 0; reply = status_alone 0x9000 }
+one_outcome kind kept old c asks effect change one number =
     let s = found_at kind kept old c asks in
-    ap (λ (f : Option RuleRow). outcome_by f s) (open_rules kind kept old c asks effect chain (commit_rules ++ proof_rules) one ∙ bound_holds kind kept old c asks effect chain proof_rules one number ∙ one.proves)
+    ap (λ (f : Option RuleRow). outcome_by f s) (open_rules kind kept old c asks effect change (commit_rules ++ proof_rules) one ∙ bound_holds kind kept old c asks effect change proof_rules one number ∙ one.proves)
     ∙ ap (λ (r : PlainReply). record { rule = 0; reply = r }) one.answers
 
 -- there is no commit number left
-pub one_over : (kind : Kind) (session : Session) (channel : Option ChannelState) (c : PlainCommand) (asks : List Ask) (effect : PlainEffect) (chain : Option PlainChain) (r : Reaction) (reply : PlainReply) (before after : CoproSeen) (store : Store) (device : Device) (cells : List ℕ)
-    → stored.Fits store device cells → CommitsOne kind (held cells) (state session channel) c asks effect chain → LAST_NUMBER < (held cells).fields.number
+pub one_over : (kind : Kind) (session : Session) (channel : Option ChannelState) (c : PlainCommand) (asks : List Ask) (effect : PlainEffect) (change : Change) (r : Reaction) (reply : PlainReply) (before after : CoproSeen) (store : Store) (device : Device) (cells : List ℕ)
+    → stored.Fits store device cells → CommitsOne kind (held cells) (state session channel) c asks effect change → LAST_NUMBER < (held cells).fields.number
     → r.rule.0 ≡ 54 → reply ≡ status_alone 0x6581 → state_left r channel ≡ state_due 54 (state_refused (state session channel))
     → IsEndedByKind kind (state session channel) c asks (Answered r 0) reply (world before store device cells) (world after store device cells)
-one_over kind session channel c asks effect chain r reply before after store device cells fits one over rule answered left =
+one_over kind session channel c asks effect change r reply before after store device cells fits one over rule answered left =
     let kept = held cells in
     let old = state session channel in
     let s = found_at kind kept old c asks in
     let number = beyond kept.fields.number over in
-    let due_fails = bound_fails kind kept old c asks effect chain [] one number in
-    let fails = bound_fails kind kept old c asks effect chain proof_rules one number in
+    let due_fails = bound_fails kind kept old c asks effect change [] one number in
+    let fails = bound_fails kind kept old c asks effect change proof_rules one number in
     let none : due_by kind_rules s ≡ [] =
-    ap (λ (f : Option RuleRow). if is_none f then to_commit (Some kind) s else []) (open_rules kind kept old c asks effect chain commit_rules one) ∙ if_not _ (to_commit (Some kind) s) [] due_fails.0 in
+    ap (λ (f : Option RuleRow). if is_none f then to_commit (Some kind) s else []) (open_rules kind kept old c asks effect change commit_rules one) ∙ if_not _ (to_commit (Some kind) s) [] due_fails.0 in
     ended_uncommitted kind old c asks r reply before after store device cells fits none (record {
       asked = one.asked;
-      ended = ap (λ (f : Option RuleRow). outcome_by f s) (open_rules kind kept old c asks effect chain (commit_rules ++ proof_rules) one) ∙ fails.1 ∙ outcome_is 54 _ r reply rule answered;
+      ended = ap (λ (f : Option RuleRow). outcome_by f s) (open_rules kind kept old c asks effect change (commit_rules ++ proof_rules) one) ∙ fails.1 ∙ outcome_is 54 _ r reply rule answered;
       left = left ∙ not_due_by kept.fields r.rule.0 54 kind c (answers_of asks) old rule refl;
     })
 
 -- the power was cut in its commit
-pub one_cut : (kind : Kind) (session : Session) (channel : Option ChannelState) (c : PlainCommand) (asks : List Ask) (effect : PlainEffect) (chain : Option PlainChain) (reply : PlainReply) (before after : CoproSeen) (store next : Store) (device now : Device) (cells cells_now : List ℕ)
-    → CommitsOne kind (held cells) (state session channel) c asks effect chain → (held cells).fields.number ≤ LAST_NUMBER
+pub one_cut : (kind : Kind) (session : Session) (channel : Option ChannelState) (c : PlainCommand) (asks : List Ask) (effect : PlainEffect) (change : Change) (reply : PlainReply) (before after : CoproSeen) (store next : Store) (device now : Device) (cells cells_now : List ℕ)
+    → CommitsOne kind (held cells) (state session channel) c asks effect change → (held cells).fields.number ≤ LAST_NUMBER
     → ((stands cells_now ≡ Some (held cells)) ⊎ (stands cells_now ≡ Some (committed effect (held cells)))) × WasCutBehind 0 device now
     → IsEndedByKind kind (state session channel) c asks (Lost 0) reply (world before store device cells) (world after next now cells_now)
-one_cut kind session channel c asks effect chain reply before after store next device now cells cells_now one fits left =
+one_cut kind session channel c asks effect change reply before after store next device now cells cells_now one fits left =
     ends_so kind (state session channel) c asks (effect ∷ []) _ (Lost 0) reply (world before store device cells) (world after next now cells_now)
-    one.asked (one_due kind (held cells) (state session channel) c asks effect chain one (within _ fits)) refl (omega arith) tt left
+    one.asked (one_due kind (held cells) (state session channel) c asks effect change one (within _ fits)) refl (omega arith) tt left
 
 -- it was committed
-pub one_committed : (kind : Kind) (session without : Session) (channel : Option ChannelState) (c : PlainCommand) (asks : List Ask) (effect : PlainEffect) (chain : Option PlainChain) (r : Reaction) (reply : PlainReply) (before after : CoproSeen) (store next : Store) (device now : Device) (cells cells_now : List ℕ)
-    → CommitsOne kind (held cells) (state session channel) c asks effect chain → (held cells).fields.number ≤ LAST_NUMBER → Has 1 (committed effect (held cells)) device next now cells_now
-    → r.rule.0 ≡ 0 → reply ≡ status_alone 0x9000 → r.session ≡ without → r.opened ≡ None → ((ch : Option ChannelState) → state without ch ≡ with_certificates chain (without_run (state session ch)))
+pub one_committed : (kind : Kind) (session without : Session) (channel : Option ChannelState) (c : PlainCommand) (asks : List Ask) (effect : PlainEffect) (change : Change) (r : Reaction) (reply : PlainReply) (before after : CoproSeen) (store next : Store) (device now : Device) (cells cells_now : List ℕ)
+    → CommitsOne kind (held cells) (state session channel) c asks effect change → (held cells).fields.number ≤ LAST_NUMBER → Has 1 (committed effect (held cells)) device next now cells_now
+    → r.rule.0 ≡ 0 → reply ≡ status_alone 0x9000 → r.session ≡ without → r.opened ≡ None → ((ch : Option ChannelState) → state without ch ≡ with_change change (without_run (state session ch)))
     → IsEndedByKind kind (state session channel) c asks (Answered r 1) reply (world before store device cells) (world after next now cells_now)
-one_committed kind session without channel c asks effect chain r reply before after store next device now cells cells_now one fits has rule answered kept_session opened left =
+one_committed kind session without channel c asks effect change r reply before after store next device now cells cells_now one fits has rule answered kept_session opened left =
     let number = within _ fits in
     let left_is : state_left r channel ≡ state without (option_map two_messages_later channel) = rw (rule, kept_session, opened) refl in
     ends_so kind (state session channel) c asks (effect ∷ []) _ (Answered r 1) reply (world before store device cells) (world after next now cells_now)
-    one.asked (one_due kind (held cells) (state session channel) c asks effect chain one number) (one_outcome kind (held cells) (state session channel) c asks effect chain one number)
+    one.asked (one_due kind (held cells) (state session channel) c asks effect change one number) (one_outcome kind (held cells) (state session channel) c asks effect change one number)
     (refl, outcome_is 0 _ r reply rule answered) (left_is ∙ left (option_map two_messages_later channel) ∙ sym one.leaves ∙ rw rule refl) (has.fits, has.holds, has.wrote)

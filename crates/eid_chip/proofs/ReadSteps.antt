@@ -1,4 +1,4 @@
--- A READ BINARY that is carried out: it fails no rule, and what it answers and leaves.
+-- A READ BINARY: how its file refuses it, and what it answers and leaves.
 use Rattle.std.proofs.Common.{◌≡◌, ap, ℕ, ◌-◌, Bool, true, false, ◌==◌, ◌||◌, not, List, [], ◌++◌, length, drop, Option, None, Some, refl}
 use Rattle.std.specs.Prelude.{nat_le, nat_lt, is_some, unwrap_or, option_map, if◌then◌else◌}
 use Rattle.std.specs.Option.{option_or}
@@ -8,26 +8,83 @@ use Rattle.eid_model.specs.declared.kind.Kind.TheVariants.{ReadBinary}
 use Rattle.eid_model.specs.Kinds.{is_by_short, file_of_short}
 use Rattle.eid_model.specs.Runs.{entered, claimed}
 use Rattle.eid_model.specs.Sessions.{State}
-use Rattle.eid_model.specs.Rules.{kind_rules, answer_rules, commit_rules, proof_rules, first_failed, file_meant, bytes_of_file, offset_meant, is_card_access}
+use Rattle.eid_model.specs.Rules.{kind_rules, answer_rules, commit_rules, proof_rules, first_failed, file_meant, bytes_of_file, offset_meant}
 use Rattle.eid_model.specs.Answers.{read_reply, success_of}
 use Rattle.eid_chip.specs.Transitions.{state_carried_out, state_refused}
-use Rattle.eid_chip.specs.Steps.{known}
+use Rattle.eid_chip.specs.Granting.{reading_refused}
+use Rattle.eid_chip.specs.Steps.{known, refusal_by}
+use Rattle.eid_chip.proofs.RightSteps.{MayRead, reading_served}
 use Rattle.eid_chip.proofs.Selections.{second_holds}
 
-is_there : (o : Option (List ℕ)) (n : ℕ) → option_map (λ bytes. length bytes) o ≡ Some n → is_some o ≡ true
+pub is_there : (o : Option (List ℕ)) (n : ℕ) → option_map (λ bytes. length bytes) o ≡ Some n → is_some o ≡ true
 is_there None n e = absurd (cc)
 is_there (Some bytes) n e = refl
 
-long_so : (o : Option (List ℕ)) (n : ℕ) → option_map (λ bytes. length bytes) o ≡ Some n → length (unwrap_or o []) ≡ n
+pub none_there : (o : Option (List ℕ)) → option_map (λ bytes. length bytes) o ≡ None → is_some o ≡ false
+none_there None e = refl
+none_there (Some bytes) e = absurd (cc)
+
+pub long_so : (o : Option (List ℕ)) (n : ℕ) → option_map (λ bytes. length bytes) o ≡ Some n → length (unwrap_or o []) ≡ n
 long_so None n e = absurd (cc)
 long_so (Some bytes) n e = cc
 
-pub read_passes : (kept : FullRecord) (old : State) (c : PlainCommand) (file size : ℕ) → (length c.body == 0) ≡ true → (is_by_short c || is_some old.current) ≡ true → file_meant (known ReadBinary kept old c []) ≡ Some file → (is_card_access (Some file) || is_some old.pace) ≡ true → nat_lt 1 file ≡ false → option_map (λ bytes. length bytes) (bytes_of_file kept (Some file)) ≡ Some size → nat_le (offset_meant c) size ≡ true → first_failed (kind_rules ++ answer_rules ++ commit_rules ++ proof_rules) (known ReadBinary kept old c []) ≡ None
-read_passes kept old c file size empty current meant pace group there offset =
-    let present = is_there (bytes_of_file kept (Some file)) size there in
-    let long = long_so (bytes_of_file kept (Some file)) size there in
-    let named = second_holds (not (is_by_short c)) true refl in
-    rw (empty, current, meant, named, pace, group, present, long, offset) refl
+-- what a READ BINARY needs before its file is looked at
+pub record MeansFile (kept : FullRecord) (old : State) (c : PlainCommand) (file : ℕ) : Type 0 where
+  pub empty : (length c.body == 0) ≡ true
+  pub current : (is_by_short c || is_some old.current) ≡ true
+  pub meant : file_meant (known ReadBinary kept old c []) ≡ Some file
+  pub served : reading_refused old file ≡ None
+
+named_so : (b : Bool) → (b || true) ≡ true
+named_so b = second_holds b true refl
+
+pub read_absent : (kept : FullRecord) (old : State) (c : PlainCommand) (file : ℕ) → MeansFile kept old c file → is_some (bytes_of_file kept (Some file)) ≡ false
+    → refusal_by kind_rules (known ReadBinary kept old c []) ≡ Some (record { rule = 37; status = 0x6A82 })
+read_absent kept old c file m absent = by (nat_lt 1 file) refl where
+  may : MayRead old file
+  may = reading_served old file m.served
+
+  by : (group : Bool) → nat_lt 1 file ≡ group → refusal_by kind_rules (known ReadBinary kept old c []) ≡ Some (record { rule = 37; status = 0x6A82 })
+  by false group = rw (m.empty, m.current, m.meant, named_so (not (is_by_short c)), may.pace, group, absent) refl
+  by true group =
+      let so = may.group group in
+      rw (m.empty, m.current, m.meant, named_so (not (is_by_short c)), may.pace, group, so.0.terminal, so.0.holder, so.0.granted, so.1, so.0.chip, absent) refl
+
+pub read_behind : (kept : FullRecord) (old : State) (c : PlainCommand) (file size : ℕ) → MeansFile kept old c file → option_map (λ bytes. length bytes) (bytes_of_file kept (Some file)) ≡ Some size → nat_le (offset_meant c) size ≡ false
+    → refusal_by kind_rules (known ReadBinary kept old c []) ≡ Some (record { rule = 38; status = 0x6B00 })
+read_behind kept old c file size m there offset = by (nat_lt 1 file) refl where
+  may : MayRead old file
+  may = reading_served old file m.served
+
+  present : is_some (bytes_of_file kept (Some file)) ≡ true
+  present = is_there (bytes_of_file kept (Some file)) size there
+
+  long : length (unwrap_or (bytes_of_file kept (Some file)) []) ≡ size
+  long = long_so (bytes_of_file kept (Some file)) size there
+
+  by : (group : Bool) → nat_lt 1 file ≡ group → refusal_by kind_rules (known ReadBinary kept old c []) ≡ Some (record { rule = 38; status = 0x6B00 })
+  by false group = rw (m.empty, m.current, m.meant, named_so (not (is_by_short c)), may.pace, group, present, long, offset) refl
+  by true group =
+      let so = may.group group in
+      rw (m.empty, m.current, m.meant, named_so (not (is_by_short c)), may.pace, group, so.0.terminal, so.0.holder, so.0.granted, so.1, so.0.chip, present, long, offset) refl
+
+pub read_passes : (kept : FullRecord) (old : State) (c : PlainCommand) (file size : ℕ) → MeansFile kept old c file → option_map (λ bytes. length bytes) (bytes_of_file kept (Some file)) ≡ Some size → nat_le (offset_meant c) size ≡ true
+    → first_failed (kind_rules ++ answer_rules ++ commit_rules ++ proof_rules) (known ReadBinary kept old c []) ≡ None
+read_passes kept old c file size m there offset = by (nat_lt 1 file) refl where
+  may : MayRead old file
+  may = reading_served old file m.served
+
+  present : is_some (bytes_of_file kept (Some file)) ≡ true
+  present = is_there (bytes_of_file kept (Some file)) size there
+
+  long : length (unwrap_or (bytes_of_file kept (Some file)) []) ≡ size
+  long = long_so (bytes_of_file kept (Some file)) size there
+
+  by : (group : Bool) → nat_lt 1 file ≡ group → first_failed (kind_rules ++ answer_rules ++ commit_rules ++ proof_rules) (known ReadBinary kept old c []) ≡ None
+  by false group = rw (m.empty, m.current, m.meant, named_so (not (is_by_short c)), may.pace, group, present, long, offset) refl
+  by true group =
+      let so = may.group group in
+      rw (m.empty, m.current, m.meant, named_so (not (is_by_short c)), may.pace, group, so.0.terminal, so.0.holder, so.0.granted, so.1, so.0.chip, present, long, offset) refl
 
 -- the answer is of the file meant
 pub read_answers : (kept : FullRecord) (old : State) (c : PlainCommand) (file : ℕ) → file_meant (known ReadBinary kept old c []) ≡ Some file → read_reply (drop (offset_meant c) (unwrap_or (bytes_of_file kept (Some file)) [])) c.ne ≡ success_of ReadBinary (known ReadBinary kept old c [])

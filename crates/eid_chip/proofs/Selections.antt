@@ -24,6 +24,9 @@ same_of a x b differs is = rw (← is) (not_false (bytes_eq a x) differs)
 pub filled : (n : ℕ) → false ≡ (n == 0) → nat_le 1 n ≡ true
 filled n e = grind (arith, nat_tests)
 
+pub unfilled : (n : ℕ) → true ≡ (n == 0) → nat_le 1 n ≡ false
+unfilled n e = grind (arith, nat_tests)
+
 pub not_above : (n m : ℕ) → m ≤ n → nat_lt n m ≡ false
 not_above n m e = grind (arith, nat_tests)
 

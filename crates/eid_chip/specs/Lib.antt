@@ -7,3 +7,4 @@ pub mod Transitions
 pub mod Commits
 pub mod Worlds
 pub mod Naming
+pub mod Granting

@@ -29,13 +29,14 @@ use Rattle.eid_model.specs.Runs as phases
 use Rattle.eid_model.specs.Rules.{Incoming, OfCommand, plain_of, Situation, RuleRow, kind_rules, answer_rules, proof_rules, committing, concerns, first_failed, to_commit, name_chosen}
 use Rattle.eid_model.specs.Answers.{Outcome, outcome, question, success_of, status_alone, due, outcome_of, question_by, due_by, situation, kind_incoming, command_of}
 use Rattle.eid_model.specs.Legal.{IsReadAs, AreAsked}
-use Rattle.eid_chip.specs.Transitions.{state_answered, state_by_kind, state_carried_out, state_refused, two_messages_later, with_certificates}
+use Rattle.eid_chip.specs.Transitions.{state_answered, state_by_kind, state_carried_out, state_refused, two_messages_later, with_change}
 use Rattle.eid_chip.specs.declared.session.Session.{Session}
+use Rattle.eid_chip.specs.declared.session.Change.{Change}
 use Rattle.eid_chip.specs.declared.session.Memory.{Memory}
 use Rattle.eid_chip.specs.declared.session.Run.TheVariants as runs
 use Rattle.eid_pace.specs.States.{PlainDone}
 use Rattle.eid_ca.specs.States.{PlainProven}
-use Rattle.eid_cvc.specs.Chains.{PlainChain, no_chain}
+use Rattle.eid_cvc.specs.Chains.{no_chain}
 use Rattle.eid_pace.specs.declared.agreed.Agreed.{Agreed}
 use Rattle.eid_chip.specs.States.{chained, state}
 use Rattle.eid_chip.specs.declared.refusal.Refusal.{Refusal}
@@ -126,17 +127,17 @@ pub record IsEndedByKind (kind : Kind) (old : State) (c : PlainCommand) (asks : 
   pub next : IsNext (λ rule. state_by_kind (held before.cells).fields rule kind c (answers_of asks) old) ending old.channel None
   pub leaves : Leaves (due_by kind_rules (known kind (held before.cells) old c (answers_of asks))) (held before.cells) ending before after
 
--- A command of a kind that commits one effect, proves nothing behind it, and answers no data, with the certificates that it
--- leaves, where it changes them: it puts these questions, and no rule before its commit fails.
+-- A command of a kind that commits one effect, proves nothing behind it, and answers no data, with what it changes beside
+-- the record: it puts these questions, and no rule before its commit fails.
 pub record CommitsOne (kind : Kind) (kept : FullRecord) (old : State) (c : PlainCommand) (asks : List Ask) (effect : PlainEffect)
-    (certificates : Option PlainChain) : Type 0 where
+    (change : Change) : Type 0 where
   pub asked : AreAsked (λ answers. question_by kind_rules (known kind kept old c answers)) [] asks
   pub passes : first_failed (kind_rules ++ answer_rules) (known kind kept old c (answers_of asks)) ≡ None
   pub committing : concerns committing (Some kind) ≡ true
   pub commits : to_commit (Some kind) (known kind kept old c (answers_of asks)) ≡ effect ∷ []
   pub proves : first_failed proof_rules (known kind kept old c (answers_of asks)) ≡ None
   pub answers : success_of kind (known kind kept old c (answers_of asks)) ≡ status_alone 0x9000
-  pub leaves : state_carried_out kept.fields kind c (answers_of asks) old ≡ with_certificates certificates (state_refused old)
+  pub leaves : state_carried_out kept.fields kind c (answers_of asks) old ≡ with_change change (state_refused old)
 
 -- the question about the signature of a certificate, with its answer
 abbrev pub certificate_ask : PlainCertificate → PlainAccepted → Answer → Ask

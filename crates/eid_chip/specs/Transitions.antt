@@ -9,7 +9,9 @@ use Rattle.eid_apdu.specs.declared.chain.Fed.TheVariants.{More}
 use Rattle.eid_copro.specs.declared.ask.Answer.{Answer}
 use Rattle.eid_record.specs.Plain.{PlainRecord}
 use Rattle.eid_cvc.specs.Certificates.{PlainBody}
-use Rattle.eid_cvc.specs.Chains.{PlainChain, no_chain}
+use Rattle.eid_cvc.specs.Chains.{PlainChain, chain_view, no_chain}
+use Rattle.eid_chip.specs.declared.session.Change.{Change}
+use Rattle.eid_chip.specs.declared.session.Change.TheVariants.{Nothing, Certificates, Current}
 use Rattle.eid_trust.specs.Trust.{chain_after as certificates_after}
 use Rattle.eid_pace.specs.States.{PlainDone}
 use Rattle.eid_sm.specs.Keys.{ChannelState, next_counter}
@@ -60,10 +62,11 @@ without_run s = record s { next = None; phase = Idle; authentication = NotBegun;
 abbrev pub state_refused : State → State
 state_refused old = without_run (state_later old)
 
--- the state with other certificates, where there are any
-abbrev pub with_certificates : Option PlainChain → State → State
-with_certificates None s = s
-with_certificates (Some chain) s = record s { certificates = chain }
+-- the state with what a commit changes beside the record
+abbrev pub with_change : Change → State → State
+with_change Nothing s = s
+with_change (Certificates chain) s = record s { certificates = chain_view chain }
+with_change (Current file) s = record s { current = Some file.0 }
 
 -- the state after a request of this kind was answered by this rule, with these answers of the coprocessor
 abbrev pub state_by_kind : PlainRecord → ℕ → Kind → PlainCommand → List Answer → State → State

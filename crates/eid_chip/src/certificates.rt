@@ -28,7 +28,7 @@ use crate::refusal::{
     BODY_FORM, FAULT, NO_PACE, NO_STEP, NO_TEMPLATE, TERMINAL_IS_KNOWN, UNKNOWN_KEY,
     WRONG_SIGNATURE, bad_certificate,
 };
-use crate::session::{MAX_NAME, Run, Session};
+use crate::session::{Change, MAX_NAME, Run, Session};
 use arrayvec::ArrayVec;
 use eid_apdu::{Command, Reply};
 use eid_cells::Eeprom;
@@ -112,10 +112,10 @@ fn enter<E: Eeprom>(
     ensures layout { SameLayout (E.cells cells.old) (E.cells cells.new) }
     ensures small { array_vec_len reply.new.content ≤ 2048 }
 {
-    let chain = Some(accepted.chain);
+    let change = Change::Certificates(accepted.chain);
     match accepted.advance {
-        Some(effect) => commit_one(&effect, chain, session, store, cells, reply),
-        None => uncommitted(carried_out(session.leaving(chain), reply)),
+        Some(effect) => commit_one(&effect, change, session, store, cells, reply),
+        None => uncommitted(carried_out(session.leaving(change), reply)),
     }
 }
 

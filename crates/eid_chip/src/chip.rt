@@ -36,7 +36,7 @@ use crate::naming::{Last, Named, kind_of, name_command};
 use crate::pace::{
     encrypted_nonce, map_nonce, mutual_authentication, perform_key_agreement, select_pace,
 };
-use crate::pin::{change_pin, unblock_pin};
+use crate::pin::{change_can, change_pin, set_active, unblock_pin};
 use crate::reaction::{Ending, Reaction, Response};
 use crate::refusal::{
     BODY_FORM, BROKEN_CHAIN, LONG_REQUEST, NO_COMMAND, NO_OBJECTS, NO_STEP, WRONG_OBJECTS,
@@ -45,6 +45,7 @@ use crate::running::Running;
 use crate::select::{read_binary, select_application, select_file, select_master_file};
 use crate::session::{Run, Session};
 use crate::terminal::{announce_terminal, external_authenticate, get_challenge};
+use crate::update::update_binary;
 use arrayvec::ArrayVec;
 use eid_apdu::{Chain, Command, Fed, MAX_REQUEST, Reply, read_command, write_reply};
 use eid_base::Rule;
@@ -97,6 +98,7 @@ fn perform<E: Eeprom, C: Coprocessor>(
         Kind::SelectMasterFile => uncommitted(select_master_file(session, c, reply)),
         Kind::SelectFile => uncommitted(select_file(session, c, reply)),
         Kind::ReadBinary => uncommitted(read_binary(session, store, cells, c, reply)),
+        Kind::UpdateBinary => update_binary(session, store, cells, c, reply),
         Kind::SelectPace => uncommitted(select_pace(session, store.kept(), c, reply)),
         Kind::SelectPublicKey => { uncommitted(select_public_key(session, store.kept(), c, reply)) }
         Kind::VerifyCertificate => verify_certificate(session, store, cells, copro, c, reply),
@@ -121,6 +123,9 @@ fn perform<E: Eeprom, C: Coprocessor>(
         }
         Kind::ChangePin => change_pin(session, store, cells, c, reply),
         Kind::UnblockPin => unblock_pin(session, store, cells, c, reply),
+        Kind::ChangeCan => change_can(session, store, cells, c, reply),
+        Kind::ActivatePin => set_active(true, session, store, cells, c, reply),
+        Kind::DeactivatePin => set_active(false, session, store, cells, c, reply),
         Kind::NoProtocol => uncommitted(refused(BODY_FORM, session, reply)),
         Kind::NoStep => uncommitted(refused(NO_STEP, session, reply)),
     }

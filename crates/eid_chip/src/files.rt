@@ -73,6 +73,7 @@ fn kept_length(kept: &Record, file: FileNo) -> Option<u16>
 pub fn file_length<E: Eeprom>(store: &Store, cells: &E, file: FileNo) -> Option<u16>
     requires { stored.Fits store.now (E.device cells.now) (E.cells cells.now) }
     ensures length { option_map (λ bytes. length bytes) (held_file (E.cells cells.now) file.0) ≡ result }
+    ensures entry { slice_index_or (stored.fields_of store.now).lengths file.0 None ≡ result }
     ensures small { IfSome result (λ n. n ≤ 2048) }
 {
     let _ = cells;

@@ -13,10 +13,12 @@ mod pace;
 mod pin;
 mod reaction;
 mod refusal;
+mod rights;
 mod running;
 mod select;
 mod session;
 mod terminal;
+mod update;
 
 pub use chip::Chip;
 pub use exchange::{Exchange, Handled, HandledIn};

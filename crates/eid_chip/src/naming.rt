@@ -69,6 +69,7 @@ fn pin_management(c: &Command<'_>, run: &Run) -> Result<Named, Refusal>
     match u16::from(c.p1) * 256 + u16::from(c.p2) {
         0x0203 => Ok(Named::Ends(Last::Of(Kind::ChangePin))),
         0x0303 => Ok(Named::Ends(Last::Of(Kind::UnblockPin))),
+        0x0202 => Ok(Named::Ends(Last::Of(Kind::ChangeCan))),
         _ => Err(PARAMETERS),
     }
 }
@@ -236,6 +237,54 @@ fn fragment(c: &Command<'_>, run: &Run) -> Result<Named, Refusal>
     }
 }
 
+/// A fragment of an UPDATE BINARY, by its parameters.
+fn update_fragment(c: &Command<'_>, run: &Run) -> Result<Named, Refusal>
+    requires { (c.now.cla ≡ 0x10) × (c.now.ins ≡ 0xD6) }
+    ensures named { IsNamed run.now (plain_command c.now) result }
+{
+    let _ = run;
+    if c.p1 >= 0xa0 {
+        return Err(PARAMETERS);
+    }
+    Ok(Named::Fragment)
+}
+
+/// The kind of an UPDATE BINARY, by its parameters.
+fn update(c: &Command<'_>, run: &Run) -> Result<Named, Refusal>
+    requires { (c.now.cla ≡ 0x00) × (c.now.ins ≡ 0xD6) }
+    ensures named { IsNamed run.now (plain_command c.now) result }
+{
+    let _ = run;
+    if c.p1 >= 0xa0 {
+        return Err(PARAMETERS);
+    }
+    Ok(Named::Ends(Last::Of(Kind::UpdateBinary)))
+}
+
+/// The kind of an ACTIVATE, by its parameters.
+fn activate(c: &Command<'_>, run: &Run) -> Result<Named, Refusal>
+    requires { (c.now.cla ≡ 0x00) × (c.now.ins ≡ 0x44) }
+    ensures named { IsNamed run.now (plain_command c.now) result }
+{
+    let _ = run;
+    if c.p1 != 0x10 || c.p2 != 0x03 {
+        return Err(PARAMETERS);
+    }
+    Ok(Named::Ends(Last::Of(Kind::ActivatePin)))
+}
+
+/// The kind of a DEACTIVATE, by its parameters.
+fn deactivate(c: &Command<'_>, run: &Run) -> Result<Named, Refusal>
+    requires { (c.now.cla ≡ 0x00) × (c.now.ins ≡ 0x04) }
+    ensures named { IsNamed run.now (plain_command c.now) result }
+{
+    let _ = run;
+    if c.p1 != 0x10 || c.p2 != 0x03 {
+        return Err(PARAMETERS);
+    }
+    Ok(Named::Ends(Last::Of(Kind::DeactivatePin)))
+}
+
 /// A fragment of a PSO, by its parameters.
 fn operation_fragment(c: &Command<'_>, run: &Run) -> Result<Named, Refusal>
     requires { (c.now.cla ≡ 0x10) × (c.now.ins ≡ 0x2A) }
@@ -268,6 +317,7 @@ fn chained(c: &Command<'_>, run: &Run) -> Result<Named, Refusal>
         0x22 => fragment(c, run),
         0x2a => operation_fragment(c, run),
         0x86 => chained_step(c, run),
+        0xd6 => update_fragment(c, run),
         _ => Err(INSTRUCTION),
     }
 }
@@ -289,8 +339,10 @@ fn plain_kind(c: &Command<'_>, run: &Run) -> Result<Named, Refusal>
     ensures named { IsNamed run.now (plain_command c.now) result }
 {
     match c.ins {
+        0x04 => deactivate(c, run),
         0x22 => environment(c, run),
         0x2a => operation(c, run),
+        0x44 => activate(c, run),
         0x82 => unchained_signature(c, run),
         0x84 => unchained_challenge(c, run),
         0x2c => pin_management(c, run),
@@ -298,6 +350,7 @@ fn plain_kind(c: &Command<'_>, run: &Run) -> Result<Named, Refusal>
         0xa4 => selection(c, run),
         0xb0 if c.p1 < 0xa0 => Ok(Named::Ends(Last::Of(Kind::ReadBinary))),
         0xb0 => Err(PARAMETERS),
+        0xd6 => update(c, run),
         _ => Err(INSTRUCTION),
     }
 }

@@ -1,12 +1,11 @@
 //! The management of the PIN by RESET RETRY COUNTER (BSI TR-03110-3), and what commits one effect.
-ghost use Rattle.std.specs.Prelude.{◌≡◌, ◌≤◌, List, true, false, IfSome, IfNone, Option, Some, option_map};
+ghost use Rattle.std.specs.Prelude.{◌≡◌, ◌≤◌, List, true, false, IfSome, IfNone, Option, Some};
 ghost use Rattle.std.specs.List.{list_all};
 ghost use Rattle.arrayvec.specs.ArrayVec.{array_vec_len};
 ghost use Rattle.eid_apdu.specs.Answer.{plain_reply};
 ghost use Rattle.eid_apdu.specs.Command.{PlainCommand, plain_command};
 ghost use Rattle.eid_copro.specs.Seen.{CoproSeen};
 ghost use Rattle.eid_copro.specs.declared.ask.Ask.{Ask};
-ghost use Rattle.eid_cvc.specs.Chains.{chain_view};
 ghost use Rattle.eid_record.specs.Effect.{CanApply};
 ghost use Rattle.eid_record.specs.EffectView.{effect_view};
 ghost use Rattle.eid_record.specs.Reading.{is_ascii_digit};
@@ -15,6 +14,7 @@ ghost use Rattle.eid_sm.specs.Keys.{ChannelState};
 ghost use Rattle.eid_store.specs.Store as stored;
 ghost use Rattle.eid_model.specs.Rules.{is_formed};
 ghost use Rattle.eid_chip.specs.Commits.{SameLayout};
+ghost use Rattle.eid_chip.specs.Granting.{activation};
 ghost use Rattle.eid_chip.specs.Held.{held};
 ghost use Rattle.eid_chip.specs.States.{state};
 ghost use Rattle.eid_chip.specs.Steps.{CommitsOne, IsEndedByKind, Performed};
@@ -22,13 +22,13 @@ ghost use Rattle.eid_chip.specs.Worlds.{world};
 
 use crate::ending::{carried_out, committed, lost, refused, uncommitted};
 use crate::reaction::Ending;
-use crate::refusal::{BODY_FORM, NO_NUMBER, NO_PACE, NO_PIN_MANAGEMENT, NO_UNBLOCKING};
-use crate::session::Session;
+use crate::refusal::{BODY_FORM, NO_NUMBER};
+use crate::rights::{check_change, check_manager, check_unblocking, was_with_puk};
+use crate::session::{Change, Session};
 use eid_apdu::{Command, Reply};
 use eid_cells::Eeprom;
-use eid_cvc::ChainState;
 use eid_model::Kind;
-use eid_record::{Effect, Password};
+use eid_record::Effect;
 use eid_store::Store;
 
 /// The greatest commit number after which commits are made: the last step of PACE may make two more.
@@ -61,11 +61,10 @@ fn pin_in(body: &[u8]) -> Option<[u8; PIN_SIZE]>
 }
 
 /// The end of a command that commits one effect, and of which nothing else is to be refused: it is committed, and 9000
-/// answered, and with it the session has other certificates, where there are any. Rule 54 is that there is no commit number
-/// left.
+/// answered, and the session changed with it. Rule 54 is that there is no commit number left.
 pub fn commit_one<E: Eeprom>(
     effect: &Effect<'_>,
-    certificates: Option<ChainState>,
+    change: Change,
     session: Session,
     store: &mut Store,
     cells: &mut E,
@@ -74,7 +73,7 @@ pub fn commit_one<E: Eeprom>(
     requires fits { stored.Fits store.old (E.device cells.old) (E.cells cells.old) }
     requires effect { CanApply (effect_view effect.now) (stored.fields_of store.old) }
     ensures ended { (before after : CoproSeen) (channel : Option ChannelState) (kind : Kind) (c : PlainCommand) (asks : List Ask)
-        → CommitsOne kind (held (E.cells cells.old)) (state session channel) c asks (effect_view effect.now) (option_map chain_view certificates)
+        → CommitsOne kind (held (E.cells cells.old)) (state session channel) c asks (effect_view effect.now) change
         → IsEndedByKind kind (state session channel) c asks result (plain_reply reply.new)
         (world before store.old (E.device cells.old) (E.cells cells.old)) (world after store.new (E.device cells.new) (E.cells cells.new)) }
     ensures layout { SameLayout (E.cells cells.old) (E.cells cells.new) }
@@ -86,11 +85,12 @@ pub fn commit_one<E: Eeprom>(
     let Ok(_) = store.commit(cells, effect) else {
         return lost(0, reply);
     };
-    committed(carried_out(session.leaving(certificates), reply), 1)
+    committed(carried_out(session.leaving(change), reply), 1)
 }
 
-/// RESET RETRY COUNTER with a new PIN, in a channel that the PIN opened. Rule 10 is a body other than six digits, rule 20
-/// that there is no PACE, rule 29 that it was with another password, rule 54 that there is no commit number left.
+/// RESET RETRY COUNTER with a new PIN, in a channel that the PIN opened, or by a terminal that may manage the PIN. Rule 10 is
+/// a body other than six digits, rule 20 that there is no PACE, rule 29 that it was with another password and no such
+/// terminal is there, rule 54 that there is no commit number left.
 pub fn change_pin<E: Eeprom>(
     session: Session,
     store: &mut Store,
@@ -106,18 +106,22 @@ pub fn change_pin<E: Eeprom>(
     let Some(pin) = pin_in(c.body) else {
         return uncommitted(refused(BODY_FORM, session, reply));
     };
-    let Some(password) = session.memory.last_password() else {
-        return uncommitted(refused(NO_PACE, session, reply));
-    };
-    let Password::Pin = password else {
-        return uncommitted(refused(NO_PIN_MANAGEMENT, session, reply));
-    };
-    commit_one(&Effect::SetPin(pin), None, session, store, cells, reply)
+    if let Err(refusal) = check_change(&session.memory) {
+        return uncommitted(refused(refusal, session, reply));
+    }
+    commit_one(
+        &Effect::SetPin(pin),
+        Change::Nothing,
+        session,
+        store,
+        cells,
+        reply,
+    )
 }
 
-/// RESET RETRY COUNTER without data, in a channel that the PUK opened: the tries of the PIN are given back. Rule 10 is a
-/// body, rule 20 that there is no PACE, rule 29 that it was with another password, rule 30 that no unblocking is left,
-/// rule 54 that there is no commit number left.
+/// RESET RETRY COUNTER without data, in a channel that the PUK opened, or by a terminal that may manage the PIN: the tries of
+/// the PIN are given back. Rule 10 is a body, rule 20 that there is no PACE, rule 29 that it was with another password and
+/// no such terminal is there, rule 30 that no unblocking by the PUK is left, rule 54 that there is no commit number left.
 pub fn unblock_pin<E: Eeprom>(
     session: Session,
     store: &mut Store,
@@ -133,18 +137,75 @@ pub fn unblock_pin<E: Eeprom>(
     if !c.body.is_empty() {
         return uncommitted(refused(BODY_FORM, session, reply));
     }
-    let Some(password) = session.memory.last_password() else {
-        return uncommitted(refused(NO_PACE, session, reply));
+    if let Err(refusal) = check_unblocking(&session.memory, store.kept().unblocks) {
+        return uncommitted(refused(refusal, session, reply));
+    }
+    let by_puk = was_with_puk(&session.memory);
+    commit_one(
+        &Effect::Unblock { by_puk },
+        Change::Nothing,
+        session,
+        store,
+        cells,
+        reply,
+    )
+}
+
+/// RESET RETRY COUNTER with a new card access number, by a terminal that may manage it. Rule 10 is a body other than six
+/// digits, rule 20 that there is no PACE, the rules 26, 28, 31 and 33 are those of `check_manager`, rule 54 that there is no
+/// commit number left.
+pub fn change_can<E: Eeprom>(
+    session: Session,
+    store: &mut Store,
+    cells: &mut E,
+    c: &Command<'_>,
+    reply: &mut Reply,
+) -> Ending
+    requires fits { stored.Fits store.old (E.device cells.old) (E.cells cells.old) }
+    ensures performed { (copro : CoproSeen) → Performed Kind.ChangeCan session (plain_command c.now) result (plain_reply reply.new)
+        (world copro store.old (E.device cells.old) (E.cells cells.old)) (world copro store.new (E.device cells.new) (E.cells cells.new)) }
+    ensures small { array_vec_len reply.new.content ≤ 2048 }
+{
+    let Some(can) = pin_in(c.body) else {
+        return uncommitted(refused(BODY_FORM, session, reply));
     };
-    let Password::Puk = password else {
-        return uncommitted(refused(NO_PIN_MANAGEMENT, session, reply));
-    };
-    if store.kept().unblocks == 0 {
-        return uncommitted(refused(NO_UNBLOCKING, session, reply));
+    if let Err(refusal) = check_manager(&session.memory) {
+        return uncommitted(refused(refusal, session, reply));
     }
     commit_one(
-        &Effect::Unblock { by_puk: true },
-        None,
+        &Effect::SetCan(can),
+        Change::Nothing,
+        session,
+        store,
+        cells,
+        reply,
+    )
+}
+
+/// ACTIVATE and DEACTIVATE of the PIN, by a terminal that may manage it. Rule 10 is a body, rule 20 that there is no PACE, the
+/// rules 26, 28, 31 and 33 are those of `check_manager`, rule 54 that there is no commit number left.
+pub fn set_active<E: Eeprom>(
+    active: bool,
+    session: Session,
+    store: &mut Store,
+    cells: &mut E,
+    c: &Command<'_>,
+    reply: &mut Reply,
+) -> Ending
+    requires fits { stored.Fits store.old (E.device cells.old) (E.cells cells.old) }
+    ensures performed { (copro : CoproSeen) → Performed (activation active) session (plain_command c.now) result (plain_reply reply.new)
+        (world copro store.old (E.device cells.old) (E.cells cells.old)) (world copro store.new (E.device cells.new) (E.cells cells.new)) }
+    ensures small { array_vec_len reply.new.content ≤ 2048 }
+{
+    if !c.body.is_empty() {
+        return uncommitted(refused(BODY_FORM, session, reply));
+    }
+    if let Err(refusal) = check_manager(&session.memory) {
+        return uncommitted(refused(refusal, session, reply));
+    }
+    commit_one(
+        &Effect::Active(active),
+        Change::Nothing,
         session,
         store,
         cells,

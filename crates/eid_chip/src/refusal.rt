@@ -77,6 +77,11 @@ pub const NOT_NAMED: Refusal = Refusal {
     rule: Rule(13),
     status: Status(0x6A82),
 };
+/// The file is no data group that may be written.
+pub const NOT_WRITABLE: Refusal = Refusal {
+    rule: Rule(14),
+    status: Status(0x6982),
+};
 /// The PIN is deactivated.
 pub const INACTIVE: Refusal = Refusal {
     rule: Rule(15),
@@ -132,6 +137,11 @@ pub const CHIP_IS_PROVEN: Refusal = Refusal {
     rule: Rule(27),
     status: Status(0x6985),
 };
+/// The chip has not authenticated itself after the terminal.
+pub const NO_CHIP: Refusal = Refusal {
+    rule: Rule(28),
+    status: Status(0x6982),
+};
 /// The last PACE gives no right to manage the PIN in this way.
 pub const NO_PIN_MANAGEMENT: Refusal = Refusal {
     rule: Rule(29),
@@ -142,6 +152,21 @@ pub const NO_UNBLOCKING: Refusal = Refusal {
     rule: Rule(30),
     status: Status(0x6983),
 };
+/// The last PACE was with the PUK, or with the CAN where that is not allowed.
+pub const NOT_BY_HOLDER: Refusal = Refusal {
+    rule: Rule(31),
+    status: Status(0x6982),
+};
+/// The application is not selected.
+pub const NOT_SELECTED: Refusal = Refusal {
+    rule: Rule(32),
+    status: Status(0x6985),
+};
+/// The right is not granted.
+pub const NO_RIGHT: Refusal = Refusal {
+    rule: Rule(33),
+    status: Status(0x6982),
+};
 /// The file is absent.
 pub const NO_FILE: Refusal = Refusal {
     rule: Rule(37),
@@ -151,6 +176,11 @@ pub const NO_FILE: Refusal = Refusal {
 pub const OFFSET: Refusal = Refusal {
     rule: Rule(38),
     status: Status(0x6B00),
+};
+/// What is to be written is longer than the file is from there on.
+pub const BEHIND_END: Refusal = Refusal {
+    rule: Rule(39),
+    status: Status(0x6A84),
 };
 /// The terminal's point is not the one that it announced.
 pub const OTHER_KEY: Refusal = Refusal {

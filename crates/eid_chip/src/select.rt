@@ -14,11 +14,10 @@ ghost use Rattle.eid_chip.specs.Transitions.{without_run};
 ghost use Rattle.eid_chip.specs.Steps.{IsAnsweredByKind, known};
 
 use crate::ending::{answered, carried_out, refused};
-use crate::files::{self, CARD_ACCESS, CARD_SECURITY, file_of_id, put_answer};
+use crate::files::{self, file_of_id, put_answer};
 use crate::reaction::Reaction;
-use crate::refusal::{
-    BODY_FORM, NO_CURRENT_FILE, NO_FILE, NO_PACE, NO_TERMINAL, NOT_NAMED, OFFSET,
-};
+use crate::refusal::{BODY_FORM, NO_CURRENT_FILE, NO_FILE, NOT_NAMED, OFFSET};
+use crate::rights::check_reading;
 use crate::session::{Memory, Session, idle};
 use eid_apdu::{Command, Reply};
 use eid_cells::Eeprom;
@@ -91,11 +90,11 @@ pub fn select_file(session: Session, c: &Command<'_>, reply: &mut Reply) -> Reac
     )
 }
 
-/// The file that READ BINARY means: of its short identifier, or the current one.
+/// The file that READ BINARY or UPDATE BINARY means: of its short identifier, or the current one.
 #[tactic(auto, unfolding(eid_model::specs::Rules::file_meant))]
-fn meant_file(session: &Session, c: &Command<'_>) -> Option<FileNo>
-    ensures file { (kept : FullRecord) (channel : Option ChannelState)
-        → file_meant (known Kind.ReadBinary kept (state session.now channel) (plain_command c.now) []) ≡ option_map (λ file. file.0) result }
+pub fn meant_file(session: &Session, c: &Command<'_>) -> Option<FileNo>
+    ensures file { (kind : Kind) (kept : FullRecord) (channel : Option ChannelState)
+        → file_meant (known kind kept (state session.now channel) (plain_command c.now) []) ≡ option_map (λ file. file.0) result }
     ensures current { is_by_short (plain_command c.now) ≡ false → result ≡ session.now.memory.current }
     ensures named { is_by_short (plain_command c.now) ≡ true → file_of_short (c.now.p1 - 0x80) ≡ option_map (λ file. file.0) result }
 {
@@ -106,8 +105,8 @@ fn meant_file(session: &Session, c: &Command<'_>) -> Option<FileNo>
     }
 }
 
-/// The offset that READ BINARY begins at: P2 behind a short identifier, else P1 and P2.
-fn meant_offset(c: &Command<'_>) -> u16
+/// The offset that it begins at: P2 behind a short identifier, else P1 and P2.
+pub fn meant_offset(c: &Command<'_>) -> u16
     ensures { result ≡ offset_meant (plain_command c.now) }
 {
     if c.p1 < 0x80 {
@@ -134,8 +133,9 @@ fn after_read(session: Session, c: &Command<'_>, file: FileNo) -> Session
     })
 }
 
-/// READ BINARY. Without PACE only EF.CardAccess is readable, and no data group without terminal
-/// authentication.
+/// READ BINARY. Without PACE only EF.CardAccess is readable, and a data group only by a terminal that has the right. Rule 10 is
+/// a body, rule 12 that there is no current file, rule 13 an unknown identifier, the rules 20, 26, 28, 31, 32 and 33 are those
+/// of `check_reading`, rule 37 is that the file is absent, rule 38 an offset behind its end.
 pub fn read_binary<E: Eeprom>(
     session: Session,
     store: &Store,
@@ -157,11 +157,8 @@ pub fn read_binary<E: Eeprom>(
     let Some(file) = meant_file(&session, c) else {
         return refused(NOT_NAMED, session, reply);
     };
-    if file != CARD_ACCESS && session.memory.pace.is_none() {
-        return refused(NO_PACE, session, reply);
-    }
-    if file.0 > CARD_SECURITY.0 {
-        return refused(NO_TERMINAL, session, reply);
+    if let Err(refusal) = check_reading(&session.memory, file) {
+        return refused(refusal, session, reply);
     }
     let Some(length) = files::file_length(store, cells, file) else {
         return refused(NO_FILE, session, reply);

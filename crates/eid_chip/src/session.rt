@@ -82,13 +82,23 @@ pub struct Session {
     pub memory: Memory,
 }
 
+/// What a commit changes in a session beside its run.
+#[derive(Drop)]
+pub enum Change {
+    /// Nothing.
+    Nothing,
+    /// Other certificates count.
+    Certificates(ChainState),
+    /// Another file is the current one.
+    Current(FileNo),
+}
+
 impl Session {
-    ghost use Rattle.std.specs.Prelude.{Option, None, option_map};
-    ghost use Rattle.eid_cvc.specs.Chains.{chain_view};
+    ghost use Rattle.std.specs.Prelude.{Option, None};
     ghost use Rattle.eid_sm.specs.Keys.{ChannelState};
     ghost use Rattle.eid_model.specs.Sessions.{fresh};
     ghost use Rattle.eid_chip.specs.States.{state};
-    ghost use Rattle.eid_chip.specs.Transitions.{with_certificates, without_run};
+    ghost use Rattle.eid_chip.specs.Transitions.{with_change, without_run};
 
     /// The session that power begins.
     pub fn new() -> Session
@@ -107,17 +117,20 @@ impl Session {
         }
     }
 
-    /// The session without its run, with other certificates where there are any.
-    pub fn leaving(self, certificates: Option<ChainState>) -> Session
-        ensures { (channel : Option ChannelState)
-            → state result channel ≡ with_certificates (option_map chain_view certificates) (without_run (state self channel)) }
+    /// The session without its run, after this change.
+    pub fn leaving(self, change: Change) -> Session
+        ensures { (channel : Option ChannelState) → state result channel ≡ with_change change (without_run (state self channel)) }
     {
-        match certificates {
-            Some(certificates) => idle(Memory {
+        match change {
+            Change::Nothing => self.without_run(),
+            Change::Certificates(certificates) => idle(Memory {
                 certificates,
                 ..self.memory
             }),
-            None => self.without_run(),
+            Change::Current(file) => idle(Memory {
+                current: Some(file),
+                ..self.memory
+            }),
         }
     }
 

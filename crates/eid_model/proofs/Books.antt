@@ -1,6 +1,6 @@
 -- The books of a journal with one moment more, and what cells may hold then.
 use Rattle.std.proofs.Common.{◌≡◌, ℕ, ◌+◌, Bool, true, false, List, [], ◌∷◌, length, take, drop, Option, Some, None, refl, sym, ap, ◌∙◌, subst, arith, inl, inr}
-use Rattle.std.specs.Prelude.{IfSome, ◌==◌, ◌&&◌, ◌||◌, ◌++◌, nat_lt, is_some, is_none, if◌then◌else◌}
+use Rattle.std.specs.Prelude.{IfSome, IsSomeAnd, ◌==◌, ◌&&◌, ◌||◌, ◌++◌, ◌≤◌, not, nat_le, nat_lt, is_some, is_none, unwrap_or, if◌then◌else◌}
 use Rattle.std.proofs.lemmas.Bool.Decides.{nat_tests}
 use Rattle.std.proofs.lemmas.List.{take_all}
 use Rattle.eid_apdu.specs.Command.{PlainCommand}
@@ -17,12 +17,13 @@ use Rattle.eid_model.specs.Moments.{Event, PoweredOn, PoweredOff, Received, Plai
 use Rattle.eid_model.specs.Runs.{answers_of}
 use Rattle.eid_model.specs.Sessions.{State}
 use Rattle.eid_model.specs.declared.kind.Kind.{Kind}
-use Rattle.eid_model.specs.declared.kind.Kind.TheVariants.{SelectApplication, SelectMasterFile, SelectFile, ReadBinary, SelectPace, SelectPublicKey, VerifyCertificate, AnnounceTerminal, GetChallenge, ExternalAuthenticate, SelectChipAuthentication, EncryptedNonce, MapNonce, PerformKeyAgreement, MutualAuthentication, AuthenticateChip, ChangePin, UnblockPin, NoProtocol, NoStep}
-use Rattle.eid_model.specs.Rules.{Incoming, NoCommand, MissingObjects, WrongObjects, OfCommand, Situation, RuleRow, plain_of, answer_rules, commit_rules, first_failed, proves_pin, is_token, token_effects, one_effect, to_advance, to_commit}
+use Rattle.eid_model.specs.declared.kind.Kind.TheVariants.{SelectApplication, SelectMasterFile, SelectFile, ReadBinary, UpdateBinary, SelectPace, SelectPublicKey, VerifyCertificate, AnnounceTerminal, GetChallenge, ExternalAuthenticate, SelectChipAuthentication, EncryptedNonce, MapNonce, PerformKeyAgreement, MutualAuthentication, AuthenticateChip, ChangePin, UnblockPin, ChangeCan, ActivatePin, DeactivatePin, NoProtocol, NoStep}
+use Rattle.eid_model.specs.Rules.{Incoming, NoCommand, MissingObjects, WrongObjects, OfCommand, Situation, RuleRow, plain_of, answer_rules, commit_rules, first_failed, proves_pin, is_token, token_effects, one_effect, to_advance, to_commit, to_write, file_meant, offset_meant, bytes_of_file, concerns}
 use Rattle.eid_model.specs.Answers.{due, due_by, situation, rules_before}
 use Rattle.eid_model.specs.Bodies.{data_in}
 use Rattle.eid_model.specs.Legal.{silent}
 use Rattle.eid_model.specs.Ledger.{Books, account, books, state_of, books_more, books_found, books_handled, due_at, first_of, ledger, pending, kept, record_after, onto, all_committed, MayHold, MayFind}
+use Rattle.eid_model.proofs.Compared.{each_holds, rules_unproved}
 use Rattle.eid_model.proofs.Ledgers.{IsEntered, AreEntered, record_more, record_onto, take_entered, drop_entered}
 
 -- ---- what is due
@@ -55,39 +56,66 @@ advance_entered kept chain (Some certificate) =
     one_entered (moves_date kept.fields chain c || moves_point kept.fields c) kept _ _ _
     (date_entered (tells_date (role_of c.template) chain) (nat_lt (number_of kept.fields.date) (number_of c.effective)) kept.fields c.effective refl)
 
--- what the kinds commit is entered
-kind_entered : (kind : Option Kind) (s : Situation) → AreEntered s.kept (to_commit kind s)
-kind_entered None s = tt
-kind_entered (Some SelectApplication) s = tt
-kind_entered (Some SelectMasterFile) s = tt
-kind_entered (Some SelectFile) s = tt
-kind_entered (Some ReadBinary) s = tt
-kind_entered (Some SelectPace) s = tt
-kind_entered (Some SelectPublicKey) s = tt
-kind_entered (Some VerifyCertificate) s = advance_entered s.kept s.state.certificates (certificate_in s.command.body)
-kind_entered (Some AnnounceTerminal) s = tt
-kind_entered (Some GetChallenge) s = tt
-kind_entered (Some ExternalAuthenticate) s = tt
-kind_entered (Some SelectChipAuthentication) s = tt
-kind_entered (Some EncryptedNonce) s = tt
-kind_entered (Some MapNonce) s = tt
-kind_entered (Some PerformKeyAgreement) s = tt
-kind_entered (Some MutualAuthentication) s =
-    token_entered s.kept (proves_pin s.state.phase) (is_token (data_in s.command.body) s.state.phase)
-kind_entered (Some AuthenticateChip) s = tt
-kind_entered (Some ChangePin) s = (tt, tt)
-kind_entered (Some UnblockPin) s = (tt, tt)
-kind_entered (Some NoProtocol) s = tt
-kind_entered (Some NoStep) s = tt
+-- what is written lies within its file
+within : (o : Option (List ℕ)) (offset size : ℕ) → is_some o ≡ true → nat_le (offset + size) (length (unwrap_or o [])) ≡ true
+    → IsSomeAnd o (λ (b : List ℕ). offset + size ≤ length b)
+within None offset size some fits = absurd (cc)
+within (Some b) offset size some fits = grind (arith, nat_tests)
 
-if_entered : (b : Bool) (kept : FullRecord) (effects : List PlainEffect) → AreEntered kept effects → AreEntered kept (if b then effects else [])
-if_entered true kept effects are = are
-if_entered false kept effects are = tt
+write_entered : (kept : FullRecord) (file : Option ℕ) (offset : ℕ) (bytes : List ℕ) → is_some (bytes_of_file kept file) ≡ true
+    → nat_le (offset + length bytes) (length (unwrap_or (bytes_of_file kept file) [])) ≡ true → AreEntered kept (to_write file offset bytes)
+write_entered kept None offset bytes some fits = tt
+write_entered kept (Some file) offset bytes some fits = (within (bytes_of_file kept (Some file)) offset (length bytes) some fits, tt)
+
+held_at : (concerned holds : Bool) → concerned ≡ true → (concerned && not holds) ≡ false → holds ≡ true
+held_at true true c e = refl
+held_at true false c e = absurd (cc)
+held_at false holds c e = absurd (cc)
+
+-- where nothing failed, the file is present and what is written ends in it: those are the rules 37 and 39
+update_entered : (s : Situation) → s.kind ≡ Some UpdateBinary → first_failed rules_unproved s ≡ None
+    → AreEntered s.kept (to_write (file_meant s) (offset_meant s.command) s.command.body)
+update_entered s kind none =
+    write_entered s.kept (file_meant s) (offset_meant s.command) s.command.body
+    (held_at (concerns (ReadBinary ∷ UpdateBinary ∷ []) s.kind) _ (ap (concerns (ReadBinary ∷ UpdateBinary ∷ [])) kind) (each_holds 31 rules_unproved s none))
+    (held_at (concerns (UpdateBinary ∷ []) s.kind) _ (ap (concerns (UpdateBinary ∷ [])) kind) (each_holds 33 rules_unproved s none))
+
+-- what the kinds commit is entered
+kind_entered : (kind : Option Kind) (s : Situation) → (kind ≡ Some UpdateBinary → AreEntered s.kept (to_commit (Some UpdateBinary) s))
+    → AreEntered s.kept (to_commit kind s)
+kind_entered None s update = tt
+kind_entered (Some SelectApplication) s update = tt
+kind_entered (Some SelectMasterFile) s update = tt
+kind_entered (Some SelectFile) s update = tt
+kind_entered (Some ReadBinary) s update = tt
+kind_entered (Some UpdateBinary) s update = update refl
+kind_entered (Some SelectPace) s update = tt
+kind_entered (Some SelectPublicKey) s update = tt
+kind_entered (Some VerifyCertificate) s update = advance_entered s.kept s.state.certificates (certificate_in s.command.body)
+kind_entered (Some AnnounceTerminal) s update = tt
+kind_entered (Some GetChallenge) s update = tt
+kind_entered (Some ExternalAuthenticate) s update = tt
+kind_entered (Some SelectChipAuthentication) s update = tt
+kind_entered (Some EncryptedNonce) s update = tt
+kind_entered (Some MapNonce) s update = tt
+kind_entered (Some PerformKeyAgreement) s update = tt
+kind_entered (Some MutualAuthentication) s update =
+    token_entered s.kept (proves_pin s.state.phase) (is_token (data_in s.command.body) s.state.phase)
+kind_entered (Some AuthenticateChip) s update = tt
+kind_entered (Some ChangePin) s update = (tt, tt)
+kind_entered (Some UnblockPin) s update = (tt, tt)
+kind_entered (Some ChangeCan) s update = (tt, tt)
+kind_entered (Some ActivatePin) s update = (tt, tt)
+kind_entered (Some DeactivatePin) s update = (tt, tt)
+kind_entered (Some NoProtocol) s update = tt
+kind_entered (Some NoStep) s update = tt
 
 pub due_entered : (s : Situation) → AreEntered s.kept (due s)
 unfolding due
-due_entered s =
-    if_entered (is_none (first_failed (rules_before ++ answer_rules ++ commit_rules) s)) s.kept (to_commit s.kind s) (kind_entered s.kind s)
+due_entered s = by (first_failed rules_unproved s) refl where
+  by : (o : Option RuleRow) → first_failed rules_unproved s ≡ o → AreEntered s.kept (if is_none o then to_commit s.kind s else [])
+  by None none = kind_entered s.kind s (λ kind. update_entered s kind none)
+  by (Some row) failed = tt
 
 if_same : {A : Type 0} (b : Bool) (x y : A) → x ≡ y → (if b then x else y) ≡ y
 if_same true x y e = e

@@ -36,7 +36,7 @@ passed (row ∷ rows) more s others e =
     passed_at (concerns row.kinds s.kind && not (row.holds s)) row rows more s both.0 (passed rows more s both.1) e
 
 -- all rules but those on proofs
-abbrev rules_unproved : List RuleRow
+abbrev pub rules_unproved : List RuleRow
 rules_unproved = rules_before ++ answer_rules ++ commit_rules
 
 -- where nothing failed, or nothing but the proof, the other rules hold
@@ -66,14 +66,14 @@ token_wrong s e refused =
     wrong_at (concerns (MutualAuthentication ∷ []) s.kind) (is_token (data_in s.command.body) s.state.phase) _ s by_proof
 
 -- each rule that concerns the kind holds, where none fails
-abbrev HoldsIn : Situation → RuleRow → Type 0
+abbrev pub HoldsIn : Situation → RuleRow → Type 0
 HoldsIn s row = (concerns row.kinds s.kind && not (row.holds s)) ≡ false
 
 row_none : (b : Bool) (row : RuleRow) (later : Option RuleRow) → (if b then Some row else later) ≡ None → (b ≡ false) × (later ≡ None)
 row_none true row later e = absurd (cc)
 row_none false row later e = (refl, e)
 
-each_holds : (n : ℕ) (rows : List RuleRow) (s : Situation) → first_failed rows s ≡ None → IfSome (slice_get rows n) (HoldsIn s)
+pub each_holds : (n : ℕ) (rows : List RuleRow) (s : Situation) → first_failed rows s ≡ None → IfSome (slice_get rows n) (HoldsIn s)
 each_holds n [] s e = tt
 each_holds zero (row ∷ rows) s e = (row_none (concerns row.kinds s.kind && not (row.holds s)) row (first_failed rows s) e).0
 each_holds (suc n) (row ∷ rows) s e = each_holds n rows s (row_none (concerns row.kinds s.kind && not (row.holds s)) row (first_failed rows s) e).1
@@ -84,9 +84,9 @@ tried_at true true false c p e = absurd (cc)
 tried_at true false tries c p e = absurd (cc)
 tried_at false starts tries c p e = absurd (cc)
 
--- PACE with the PIN began only where a try was left: that is the rule behind fourteen others
+-- PACE with the PIN began only where a try was left: that is the rule behind fifteen others
 pub try_held : (s : Situation) → s.kind ≡ Some EncryptedNonce → is_compared (outcome s).rule ≡ true → starts_pin s.state.phase ≡ true
     → has_try s.kept.fields ≡ true
 try_held s kind e starts =
     tried_at (concerns (EncryptedNonce ∷ []) s.kind) (starts_pin s.state.phase) (has_try s.kept.fields) (ap (concerns (EncryptedNonce ∷ [])) kind) starts
-    (each_holds 14 rules_unproved s (unproved_hold s e).0)
+    (each_holds 15 rules_unproved s (unproved_hold s e).0)

@@ -1,6 +1,7 @@
 pub mod Hexadecimal
 pub mod KeyBytes
 pub mod Journals
+pub mod Writes
 pub mod Ledgers
 pub mod Books
 pub mod Forms

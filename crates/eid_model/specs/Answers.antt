@@ -21,7 +21,7 @@ use Rattle.eid_cvc.specs.CertificateIn.{certificate_in}
 use Rattle.eid_cvc.specs.Chains.{PlainChain}
 use Rattle.eid_trust.specs.Trust.{key_of, signer_of}
 use Rattle.eid_model.specs.declared.kind.Kind.{Kind}
-use Rattle.eid_model.specs.declared.kind.Kind.TheVariants.{SelectApplication, SelectMasterFile, SelectFile, ReadBinary, SelectPace, SelectPublicKey, VerifyCertificate, AnnounceTerminal, GetChallenge, ExternalAuthenticate, SelectChipAuthentication, EncryptedNonce, MapNonce, PerformKeyAgreement, MutualAuthentication, AuthenticateChip, ChangePin, UnblockPin, NoProtocol, NoStep}
+use Rattle.eid_model.specs.declared.kind.Kind.TheVariants.{SelectApplication, SelectMasterFile, SelectFile, ReadBinary, UpdateBinary, SelectPace, SelectPublicKey, VerifyCertificate, AnnounceTerminal, GetChallenge, ExternalAuthenticate, SelectChipAuthentication, EncryptedNonce, MapNonce, PerformKeyAgreement, MutualAuthentication, AuthenticateChip, ChangePin, UnblockPin, ChangeCan, ActivatePin, DeactivatePin, NoProtocol, NoStep}
 use Rattle.eid_model.specs.Bodies.{data_in, authentication_data}
 use Rattle.eid_model.specs.Kinds.{kind_named}
 use Rattle.eid_model.specs.Runs.{Phase, Chose, SentNonce, HasBase, HasSecret, choice_in, Authentication, Announced, Challenged, ChoseProtocol}
@@ -87,6 +87,7 @@ success_of SelectMasterFile s = status_alone 0x9000
 success_of SelectFile s = status_alone 0x9000
 success_of ReadBinary s =
     read_reply (drop (offset_meant s.command) (unwrap_or (bytes_of_file s.kept (file_meant s)) [])) s.command.ne
+success_of UpdateBinary s = status_alone 0x9000
 success_of SelectPace s = select_reply s.kept.fields (choice_in s.command.body)
 success_of SelectPublicKey s = status_alone 0x9000
 success_of VerifyCertificate s = status_alone 0x9000
@@ -101,6 +102,9 @@ success_of MutualAuthentication s = token_reply s.kept.fields s.state.phase
 success_of AuthenticateChip s = proof_reply (data_in s.command.body) s.state.authentication s.answers
 success_of ChangePin s = status_alone 0x9000
 success_of UnblockPin s = status_alone 0x9000
+success_of ChangeCan s = status_alone 0x9000
+success_of ActivatePin s = status_alone 0x9000
+success_of DeactivatePin s = status_alone 0x9000
 success_of NoProtocol s = status_alone 0x9000
 success_of NoStep s = status_alone 0x9000
 
@@ -197,6 +201,7 @@ question_of (Some SelectApplication) s = None
 question_of (Some SelectMasterFile) s = None
 question_of (Some SelectFile) s = None
 question_of (Some ReadBinary) s = None
+question_of (Some UpdateBinary) s = None
 question_of (Some SelectPace) s = None
 question_of (Some SelectPublicKey) s = None
 question_of (Some VerifyCertificate) s = verify_question s.kept.fields s.state.certificates (certificate_in s.command.body) s.answers
@@ -211,6 +216,9 @@ question_of (Some MutualAuthentication) s = None
 question_of (Some AuthenticateChip) s = chip_question s.kept.fields (data_in s.command.body) s.state.authentication s.answers
 question_of (Some ChangePin) s = None
 question_of (Some UnblockPin) s = None
+question_of (Some ChangeCan) s = None
+question_of (Some ActivatePin) s = None
+question_of (Some DeactivatePin) s = None
 question_of (Some NoProtocol) s = None
 question_of (Some NoStep) s = None
 

@@ -6,7 +6,7 @@ use Rattle.eid_apdu.specs.Command.{PlainCommand}
 use Rattle.eid_apdu.specs.Chaining.{is_fragment}
 use Rattle.eid_ca.specs.Selections.{chosen_in}
 use Rattle.eid_model.specs.declared.kind.Kind.{Kind}
-use Rattle.eid_model.specs.declared.kind.Kind.TheVariants.{SelectApplication, SelectMasterFile, SelectFile, ReadBinary, SelectPace, SelectPublicKey, VerifyCertificate, AnnounceTerminal, GetChallenge, ExternalAuthenticate, SelectChipAuthentication, EncryptedNonce, MapNonce, PerformKeyAgreement, MutualAuthentication, AuthenticateChip, ChangePin, UnblockPin, NoProtocol, NoStep}
+use Rattle.eid_model.specs.declared.kind.Kind.TheVariants.{SelectApplication, SelectMasterFile, SelectFile, ReadBinary, UpdateBinary, SelectPace, SelectPublicKey, VerifyCertificate, AnnounceTerminal, GetChallenge, ExternalAuthenticate, SelectChipAuthentication, EncryptedNonce, MapNonce, PerformKeyAgreement, MutualAuthentication, AuthenticateChip, ChangePin, UnblockPin, ChangeCan, ActivatePin, DeactivatePin, NoProtocol, NoStep}
 
 -- the kinds by number, in the order of the table
 abbrev pub number_of : Kind → ℕ
@@ -14,22 +14,26 @@ number_of SelectApplication = 0
 number_of SelectMasterFile = 1
 number_of SelectFile = 2
 number_of ReadBinary = 3
-number_of SelectPace = 4
-number_of SelectPublicKey = 5
-number_of VerifyCertificate = 6
-number_of AnnounceTerminal = 7
-number_of GetChallenge = 8
-number_of ExternalAuthenticate = 9
-number_of SelectChipAuthentication = 10
-number_of EncryptedNonce = 11
-number_of MapNonce = 12
-number_of PerformKeyAgreement = 13
-number_of MutualAuthentication = 14
-number_of AuthenticateChip = 15
-number_of ChangePin = 16
-number_of UnblockPin = 17
-number_of NoProtocol = 18
-number_of NoStep = 19
+number_of UpdateBinary = 4
+number_of SelectPace = 5
+number_of SelectPublicKey = 6
+number_of VerifyCertificate = 7
+number_of AnnounceTerminal = 8
+number_of GetChallenge = 9
+number_of ExternalAuthenticate = 10
+number_of SelectChipAuthentication = 11
+number_of EncryptedNonce = 12
+number_of MapNonce = 13
+number_of PerformKeyAgreement = 14
+number_of MutualAuthentication = 15
+number_of AuthenticateChip = 16
+number_of ChangePin = 17
+number_of UnblockPin = 18
+number_of ChangeCan = 19
+number_of ActivatePin = 20
+number_of DeactivatePin = 21
+number_of NoProtocol = 22
+number_of NoStep = 23
 
 abbrev pub same_kind : Kind → Kind → Bool
 same_kind a b = number_of a == number_of b
@@ -38,7 +42,7 @@ same_kind a b = number_of a == number_of b
 abbrev pub p1p2 : PlainCommand → ℕ
 p1p2 c = 256 * c.p1 + c.p2
 
--- READ BINARY by short identifier has 80 to 9F as P1, and the offset as P2; by offset alone P1 is below 80
+-- READ BINARY and UPDATE BINARY by short identifier have 80 to 9F as P1, and the offset as P2; by offset alone P1 is below 80
 abbrev pub is_by_short : PlainCommand → Bool
 is_by_short c = nat_le 0x80 c.p1
 
@@ -69,6 +73,7 @@ kinds =
     record { kind = SelectMasterFile; classes = 0x00 ∷ []; instruction = 0xA4; parameters = λ p. p == 0x000C; comes = always } ∷
     record { kind = SelectFile; classes = 0x00 ∷ []; instruction = 0xA4; parameters = λ p. p == 0x020C; comes = always } ∷
     record { kind = ReadBinary; classes = 0x00 ∷ []; instruction = 0xB0; parameters = λ p. nat_lt p 0xA000; comes = always } ∷
+    record { kind = UpdateBinary; classes = 0x00 ∷ 0x10 ∷ []; instruction = 0xD6; parameters = λ p. nat_lt p 0xA000; comes = always } ∷
     record { kind = SelectPace; classes = 0x00 ∷ 0x10 ∷ []; instruction = 0x22; parameters = λ p. p == 0xC1A4; comes = always } ∷
     record { kind = SelectPublicKey; classes = 0x00 ∷ 0x10 ∷ []; instruction = 0x22; parameters = λ p. p == 0x81B6; comes = always } ∷
     record { kind = VerifyCertificate; classes = 0x00 ∷ 0x10 ∷ []; instruction = 0x2A; parameters = λ p. p == 0x00BE; comes = in_turn VerifyCertificate } ∷
@@ -83,6 +88,9 @@ kinds =
     record { kind = AuthenticateChip; classes = 0x00 ∷ []; instruction = 0x86; parameters = λ p. p == 0; comes = in_turn AuthenticateChip } ∷
     record { kind = ChangePin; classes = 0x00 ∷ []; instruction = 0x2C; parameters = λ p. p == 0x0203; comes = always } ∷
     record { kind = UnblockPin; classes = 0x00 ∷ []; instruction = 0x2C; parameters = λ p. p == 0x0303; comes = always } ∷
+    record { kind = ChangeCan; classes = 0x00 ∷ []; instruction = 0x2C; parameters = λ p. p == 0x0202; comes = always } ∷
+    record { kind = ActivatePin; classes = 0x00 ∷ []; instruction = 0x44; parameters = λ p. p == 0x1003; comes = always } ∷
+    record { kind = DeactivatePin; classes = 0x00 ∷ []; instruction = 0x04; parameters = λ p. p == 0x1003; comes = always } ∷
     -- an MSE:Set AT that names no protocol of its parameters
     record { kind = NoProtocol; classes = 0x00 ∷ []; instruction = 0x22; parameters = λ p. p == 0x41A4; comes = always } ∷
     -- a step that the run has not come to
@@ -121,6 +129,7 @@ step_after SelectApplication = None
 step_after SelectMasterFile = None
 step_after SelectFile = None
 step_after ReadBinary = None
+step_after UpdateBinary = None
 step_after SelectPace = Some EncryptedNonce
 step_after SelectPublicKey = Some VerifyCertificate
 step_after VerifyCertificate = None
@@ -135,6 +144,9 @@ step_after MutualAuthentication = None
 step_after AuthenticateChip = None
 step_after ChangePin = None
 step_after UnblockPin = None
+step_after ChangeCan = None
+step_after ActivatePin = None
+step_after DeactivatePin = None
 step_after NoProtocol = None
 step_after NoStep = None
 
@@ -144,6 +156,7 @@ begins_run SelectApplication = false
 begins_run SelectMasterFile = false
 begins_run SelectFile = false
 begins_run ReadBinary = false
+begins_run UpdateBinary = false
 begins_run SelectPace = true
 begins_run SelectPublicKey = true
 begins_run VerifyCertificate = false
@@ -158,6 +171,9 @@ begins_run MutualAuthentication = false
 begins_run AuthenticateChip = false
 begins_run ChangePin = false
 begins_run UnblockPin = false
+begins_run ChangeCan = false
+begins_run ActivatePin = false
+begins_run DeactivatePin = false
 begins_run NoProtocol = false
 begins_run NoStep = false
 
@@ -166,6 +182,7 @@ goes_on_in_run SelectApplication = false
 goes_on_in_run SelectMasterFile = false
 goes_on_in_run SelectFile = false
 goes_on_in_run ReadBinary = false
+goes_on_in_run UpdateBinary = false
 goes_on_in_run SelectPace = false
 goes_on_in_run SelectPublicKey = false
 goes_on_in_run VerifyCertificate = true
@@ -180,6 +197,9 @@ goes_on_in_run MutualAuthentication = true
 goes_on_in_run AuthenticateChip = true
 goes_on_in_run ChangePin = false
 goes_on_in_run UnblockPin = false
+goes_on_in_run ChangeCan = false
+goes_on_in_run ActivatePin = false
+goes_on_in_run DeactivatePin = false
 goes_on_in_run NoProtocol = false
 goes_on_in_run NoStep = false
 

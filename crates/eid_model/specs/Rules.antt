@@ -6,12 +6,14 @@ use Rattle.std.specs.List.{list_all, list_any}
 use Rattle.std.specs.Str.{bytes_eq}
 use Rattle.eid_apdu.specs.Command.{PlainCommand}
 use Rattle.eid_apdu.specs.Chaining.{MAX_REQUEST}
-use Rattle.eid_record.specs.Plain.{FullRecord, PlainRecord, PlainEffect, Spend, Refill, SetPin, Unblock}
+use Rattle.eid_record.specs.Plain.{FullRecord, PlainRecord, PlainEffect, Spend, Refill, SetPin, SetCan, Active, Unblock, Write}
 use Rattle.eid_record.specs.Effect.{applied}
-use Rattle.eid_bits.specs.Rights.{role_of}
+use Rattle.eid_bits.specs.Date.{is_between}
+use Rattle.eid_bits.specs.Rights.{is_right, role_of}
+use Rattle.eid_bits.specs.Template.{template_bit}
 use Rattle.eid_cvc.specs.Certificates.{PlainBody, PlainCertificate}
 use Rattle.eid_cvc.specs.CertificateIn.{certificate_in}
-use Rattle.eid_cvc.specs.Chains.{PlainChain, PlainParty, PlainTerminalKnown}
+use Rattle.eid_cvc.specs.Chains.{PlainChain, PlainParty}
 use Rattle.eid_ta.specs.States.{PlainAnnouncement}
 use Rattle.eid_ta.specs.AnnouncementIn.{announcement_in}
 use Rattle.eid_ta.specs.Rules.{chain_rule, name_rule}
@@ -23,7 +25,7 @@ use Rattle.eid_record.specs.Reading.{is_ascii_digit}
 use Rattle.eid_record.specs.declared.fields.Password.{Password}
 use Rattle.eid_password.specs.Passwords.{is_can, is_pin, is_puk, has_try, is_resumed, active_rule, try_rule, resumed_rule}
 use Rattle.eid_model.specs.declared.kind.Kind.{Kind}
-use Rattle.eid_model.specs.declared.kind.Kind.TheVariants.{SelectApplication, SelectMasterFile, SelectFile, ReadBinary, SelectPace, SelectPublicKey, VerifyCertificate, AnnounceTerminal, GetChallenge, ExternalAuthenticate, SelectChipAuthentication, EncryptedNonce, MapNonce, PerformKeyAgreement, MutualAuthentication, AuthenticateChip, ChangePin, UnblockPin, NoProtocol, NoStep}
+use Rattle.eid_model.specs.declared.kind.Kind.TheVariants.{SelectApplication, SelectMasterFile, SelectFile, ReadBinary, UpdateBinary, SelectPace, SelectPublicKey, VerifyCertificate, AnnounceTerminal, GetChallenge, ExternalAuthenticate, SelectChipAuthentication, EncryptedNonce, MapNonce, PerformKeyAgreement, MutualAuthentication, AuthenticateChip, ChangePin, UnblockPin, ChangeCan, ActivatePin, DeactivatePin, NoProtocol, NoStep}
 use Rattle.eid_model.specs.Kinds.{same_kind, kinds, has_instruction, has_parameters, is_by_short, file_of_short, file_of_id, card_access, card_security, application_id}
 use Rattle.eid_copro.specs.declared.ask.Answer.{Answer}
 use Rattle.eid_copro.specs.declared.ask.Answer.TheVariants as answers
@@ -93,6 +95,7 @@ is_formed (Some SelectApplication) body = nat_le 1 (length body) && nat_le (leng
 is_formed (Some SelectMasterFile) body = length body == 0 || bytes_eq body (0x3F ∷ 0x00 ∷ [])
 is_formed (Some SelectFile) body = length body == 2
 is_formed (Some ReadBinary) body = length body == 0
+is_formed (Some UpdateBinary) body = nat_le 1 (length body)
 is_formed (Some SelectPace) body = is_some (selection_in body)
 is_formed (Some SelectPublicKey) body = is_some (key_name_in body)
 is_formed (Some VerifyCertificate) body = is_some (certificate_in body)
@@ -107,14 +110,17 @@ is_formed (Some MutualAuthentication) body = holds_value 0x85 8 body
 is_formed (Some AuthenticateChip) body = holds_point 0x80 body
 is_formed (Some ChangePin) body = length body == PIN_SIZE && list_all is_ascii_digit body
 is_formed (Some UnblockPin) body = length body == 0
+is_formed (Some ChangeCan) body = length body == PIN_SIZE && list_all is_ascii_digit body
+is_formed (Some ActivatePin) body = length body == 0
+is_formed (Some DeactivatePin) body = length body == 0
 is_formed (Some NoProtocol) body = false
 is_formed (Some NoStep) body = true
 
--- the file that a READ means: of its short identifier, or the current one
+-- the file that a READ or an UPDATE means: of its short identifier, or the current one
 unfoldable pub file_meant : Situation → Option ℕ
 file_meant s = if is_by_short s.command then file_of_short (s.command.p1 - 0x80) else s.state.current
 
--- the offset that a READ begins at
+-- the offset that it begins at
 abbrev pub offset_meant : PlainCommand → ℕ
 offset_meant c = if is_by_short c then c.p2 else 256 * c.p1 + c.p2
 
@@ -125,6 +131,7 @@ is_named (Some SelectApplication) s = bytes_eq s.command.body application_id
 is_named (Some SelectMasterFile) s = true
 is_named (Some SelectFile) s = is_some (file_of_id (number_of_two s.command.body))
 is_named (Some ReadBinary) s = not (is_by_short s.command) || is_some (file_meant s)
+is_named (Some UpdateBinary) s = not (is_by_short s.command) || is_some (file_meant s)
 is_named (Some SelectPace) s = true
 is_named (Some SelectPublicKey) s = true
 is_named (Some VerifyCertificate) s = true
@@ -139,6 +146,9 @@ is_named (Some MutualAuthentication) s = true
 is_named (Some AuthenticateChip) s = true
 is_named (Some ChangePin) s = true
 is_named (Some UnblockPin) s = true
+is_named (Some ChangeCan) s = true
+is_named (Some ActivatePin) s = true
+is_named (Some DeactivatePin) s = true
 is_named (Some NoProtocol) s = true
 is_named (Some NoStep) s = true
 
@@ -207,6 +217,7 @@ reads_card_access (Some SelectApplication) file = false
 reads_card_access (Some SelectMasterFile) file = false
 reads_card_access (Some SelectFile) file = false
 reads_card_access (Some ReadBinary) file = is_card_access file
+reads_card_access (Some UpdateBinary) file = false
 reads_card_access (Some SelectPace) file = false
 reads_card_access (Some SelectPublicKey) file = false
 reads_card_access (Some VerifyCertificate) file = false
@@ -221,6 +232,9 @@ reads_card_access (Some MutualAuthentication) file = false
 reads_card_access (Some AuthenticateChip) file = false
 reads_card_access (Some ChangePin) file = false
 reads_card_access (Some UnblockPin) file = false
+reads_card_access (Some ChangeCan) file = false
+reads_card_access (Some ActivatePin) file = false
+reads_card_access (Some DeactivatePin) file = false
 reads_card_access (Some NoProtocol) file = false
 reads_card_access (Some NoStep) file = false
 
@@ -231,6 +245,7 @@ may_manage (Some SelectApplication) pace = false
 may_manage (Some SelectMasterFile) pace = false
 may_manage (Some SelectFile) pace = false
 may_manage (Some ReadBinary) pace = false
+may_manage (Some UpdateBinary) pace = false
 may_manage (Some SelectPace) pace = false
 may_manage (Some SelectPublicKey) pace = false
 may_manage (Some VerifyCertificate) pace = false
@@ -245,6 +260,9 @@ may_manage (Some MutualAuthentication) pace = false
 may_manage (Some AuthenticateChip) pace = false
 may_manage (Some ChangePin) pace = was_with is_pin pace
 may_manage (Some UnblockPin) pace = was_with is_puk pace
+may_manage (Some ChangeCan) pace = false
+may_manage (Some ActivatePin) pace = false
+may_manage (Some DeactivatePin) pace = false
 may_manage (Some NoProtocol) pace = false
 may_manage (Some NoStep) pace = false
 
@@ -303,29 +321,123 @@ abbrev pub announces : PlainChain → Option PlainAnnouncement → Bool
 announces chain None = false
 announces chain (Some announcement) = is_named_party chain.terminal announcement.reference
 
--- what a command needs of terminal authentication: that one succeeded; no data group is given out at this stage
-abbrev pub follows_terminal : Option Kind → Option ℕ → Option PlainTerminalKnown → Bool
-follows_terminal None file terminal = true
-follows_terminal (Some SelectApplication) file terminal = true
-follows_terminal (Some SelectMasterFile) file terminal = true
-follows_terminal (Some SelectFile) file terminal = true
-follows_terminal (Some ReadBinary) file terminal = not (is_data_group file)
-follows_terminal (Some SelectPace) file terminal = true
-follows_terminal (Some SelectPublicKey) file terminal = true
-follows_terminal (Some VerifyCertificate) file terminal = true
-follows_terminal (Some AnnounceTerminal) file terminal = true
-follows_terminal (Some GetChallenge) file terminal = true
-follows_terminal (Some ExternalAuthenticate) file terminal = true
-follows_terminal (Some SelectChipAuthentication) file terminal = is_some terminal
-follows_terminal (Some EncryptedNonce) file terminal = true
-follows_terminal (Some MapNonce) file terminal = true
-follows_terminal (Some PerformKeyAgreement) file terminal = true
-follows_terminal (Some MutualAuthentication) file terminal = true
-follows_terminal (Some AuthenticateChip) file terminal = true
-follows_terminal (Some ChangePin) file terminal = true
-follows_terminal (Some UnblockPin) file terminal = true
-follows_terminal (Some NoProtocol) file terminal = true
-follows_terminal (Some NoStep) file terminal = true
+abbrev pub is_of : Kind → Option Kind → Bool
+is_of kind None = false
+is_of kind (Some other) = same_kind kind other
+
+-- the command is one for a terminal that has authenticated itself, after which the chip has: it reads a data group, writes,
+-- or manages the PIN or the CAN
+abbrev pub is_for_terminal : Option Kind → Option ℕ → Bool
+is_for_terminal None file = false
+is_for_terminal (Some SelectApplication) file = false
+is_for_terminal (Some SelectMasterFile) file = false
+is_for_terminal (Some SelectFile) file = false
+is_for_terminal (Some ReadBinary) file = is_data_group file
+is_for_terminal (Some UpdateBinary) file = true
+is_for_terminal (Some SelectPace) file = false
+is_for_terminal (Some SelectPublicKey) file = false
+is_for_terminal (Some VerifyCertificate) file = false
+is_for_terminal (Some AnnounceTerminal) file = false
+is_for_terminal (Some GetChallenge) file = false
+is_for_terminal (Some ExternalAuthenticate) file = false
+is_for_terminal (Some SelectChipAuthentication) file = false
+is_for_terminal (Some EncryptedNonce) file = false
+is_for_terminal (Some MapNonce) file = false
+is_for_terminal (Some PerformKeyAgreement) file = false
+is_for_terminal (Some MutualAuthentication) file = false
+is_for_terminal (Some AuthenticateChip) file = false
+is_for_terminal (Some ChangePin) file = false
+is_for_terminal (Some UnblockPin) file = false
+is_for_terminal (Some ChangeCan) file = true
+is_for_terminal (Some ActivatePin) file = true
+is_for_terminal (Some DeactivatePin) file = true
+is_for_terminal (Some NoProtocol) file = false
+is_for_terminal (Some NoStep) file = false
+
+-- and chip authentication is begun only with such a terminal
+abbrev pub wants_terminal : Option Kind → Option ℕ → Bool
+wants_terminal kind file = is_for_terminal kind file || is_of SelectChipAuthentication kind
+
+-- ---- what a terminal is granted (BSI TR-03110-4)
+
+abbrev pub has_bit : Option (List ℕ) → ℕ → Bool
+has_bit None bit = false
+has_bit (Some template) bit = template_bit template bit
+
+-- the holder gave this right in the last PACE
+abbrev pub holder_gave : Option PaceMemory → ℕ → Bool
+holder_gave None bit = false
+holder_gave (Some pace) bit = has_bit pace.template bit
+
+abbrev pub has_party_bit : Option PlainParty → ℕ → Bool
+has_party_bit None bit = false
+has_party_bit (Some party) bit = template_bit party.template bit
+
+-- the trust point, the document verifier and the terminal have it
+abbrev pub chain_gave : PlainChain → ℕ → Bool
+chain_gave chain bit = has_bit chain.root bit && has_party_bit chain.verifier bit && has_party_bit chain.terminal bit
+
+-- the right is granted: after chip authentication, where it stands in the holder's template and in all of the chain
+unfoldable pub is_granted : State → ℕ → Bool
+is_granted s bit = s.chip_proven && is_right bit && holder_gave s.pace bit && chain_gave s.certificates bit
+
+-- the rights by their numbers
+abbrev pub CAN_ALLOWED : ℕ
+CAN_ALLOWED = 4
+
+abbrev pub PIN_MANAGEMENT : ℕ
+PIN_MANAGEMENT = 5
+
+-- to read data group n, bit 7 + n; to write it, bit 54 - n
+abbrev pub reading : ℕ → ℕ
+reading n = 7 + n
+
+abbrev pub writing : ℕ → ℕ
+writing n = 54 - n
+
+-- the data group that a file is, 0 where it is none
+abbrev pub group_of : ℕ → ℕ
+group_of file = file - 1
+
+-- the last PACE was with the PIN, or with the CAN, where that is allowed
+unfoldable pub is_by_holder : State → Bool
+is_by_holder s = was_with is_pin s.pace || (was_with is_can s.pace && is_granted s CAN_ALLOWED)
+
+abbrev pub with_file : (ℕ → Bool) → Option ℕ → Bool
+with_file holds None = false
+with_file holds (Some file) = holds file
+
+-- the right that a command takes is granted
+abbrev pub has_its_right : Option Kind → Option ℕ → State → Bool
+has_its_right None file s = false
+has_its_right (Some SelectApplication) file s = false
+has_its_right (Some SelectMasterFile) file s = false
+has_its_right (Some SelectFile) file s = false
+has_its_right (Some ReadBinary) file s = with_file (λ f. is_granted s (reading (group_of f))) file
+has_its_right (Some UpdateBinary) file s = with_file (λ f. is_granted s (writing (group_of f))) file
+has_its_right (Some SelectPace) file s = false
+has_its_right (Some SelectPublicKey) file s = false
+has_its_right (Some VerifyCertificate) file s = false
+has_its_right (Some AnnounceTerminal) file s = false
+has_its_right (Some GetChallenge) file s = false
+has_its_right (Some ExternalAuthenticate) file s = false
+has_its_right (Some SelectChipAuthentication) file s = false
+has_its_right (Some EncryptedNonce) file s = false
+has_its_right (Some MapNonce) file s = false
+has_its_right (Some PerformKeyAgreement) file s = false
+has_its_right (Some MutualAuthentication) file s = false
+has_its_right (Some AuthenticateChip) file s = false
+has_its_right (Some ChangePin) file s = false
+has_its_right (Some UnblockPin) file s = false
+has_its_right (Some ChangeCan) file s = is_granted s PIN_MANAGEMENT
+has_its_right (Some ActivatePin) file s = is_granted s PIN_MANAGEMENT
+has_its_right (Some DeactivatePin) file s = is_granted s PIN_MANAGEMENT
+has_its_right (Some NoProtocol) file s = false
+has_its_right (Some NoStep) file s = false
+
+-- a terminal may manage the PIN
+unfoldable pub manages_pin : State → Bool
+manages_pin s = s.chip_proven && is_by_holder s && is_granted s PIN_MANAGEMENT
 
 -- the point is the one that the terminal announced, by its X half
 abbrev pub is_announced : List ℕ → Authentication → Bool
@@ -354,6 +466,11 @@ to_advance kept chain (Some certificate) = one_effect (advance kept chain certif
 abbrev pub token_effects : (pin right : Bool) → List PlainEffect
 token_effects pin right = if pin then Spend ∷ (if right then Refill ∷ [] else []) else []
 
+-- bytes are written to a file from an offset on
+abbrev pub to_write : Option ℕ → ℕ → List ℕ → List PlainEffect
+to_write None offset bytes = []
+to_write (Some file) offset bytes = Write file offset bytes ∷ []
+
 -- the effects that a command of this kind commits where it is carried out, or where nothing but its proof is wrong, in
 -- their order
 abbrev pub to_commit : Option Kind → Situation → List PlainEffect
@@ -362,6 +479,7 @@ to_commit (Some SelectApplication) s = []
 to_commit (Some SelectMasterFile) s = []
 to_commit (Some SelectFile) s = []
 to_commit (Some ReadBinary) s = []
+to_commit (Some UpdateBinary) s = to_write (file_meant s) (offset_meant s.command) s.command.body
 to_commit (Some SelectPace) s = []
 to_commit (Some SelectPublicKey) s = []
 to_commit (Some VerifyCertificate) s = to_advance s.kept.fields s.state.certificates (certificate_in s.command.body)
@@ -376,6 +494,9 @@ to_commit (Some MutualAuthentication) s = token_effects (proves_pin s.state.phas
 to_commit (Some AuthenticateChip) s = []
 to_commit (Some ChangePin) s = SetPin s.command.body ∷ []
 to_commit (Some UnblockPin) s = Unblock (was_with is_puk s.state.pace) ∷ []
+to_commit (Some ChangeCan) s = SetCan s.command.body ∷ []
+to_commit (Some ActivatePin) s = Active true ∷ []
+to_commit (Some DeactivatePin) s = Active false ∷ []
 to_commit (Some NoProtocol) s = []
 to_commit (Some NoStep) s = []
 
@@ -386,7 +507,7 @@ are_none (effect ∷ later) = false
 
 -- the kinds that may commit something
 abbrev pub committing : List Kind
-committing = VerifyCertificate ∷ MutualAuthentication ∷ ChangePin ∷ UnblockPin ∷ []
+committing = UpdateBinary ∷ VerifyCertificate ∷ MutualAuthentication ∷ ChangePin ∷ UnblockPin ∷ ChangeCan ∷ ActivatePin ∷ DeactivatePin ∷ []
 
 -- the greatest commit number after which commits are due: the last step of PACE may make two more
 abbrev pub LAST_NUMBER : ℕ
@@ -397,6 +518,10 @@ abbrev pub token_status : PlainRecord → (pin : Bool) → ℕ
 token_status kept pin = if pin then 0x63C0 + (applied Spend kept).tries else 0x6300
 
 -- ---- the rules
+
+-- the kinds that need a terminal which has authenticated itself, after which the chip has; of READ BINARY those of data groups
+abbrev pub for_terminals : List Kind
+for_terminals = ReadBinary ∷ UpdateBinary ∷ ChangeCan ∷ ActivatePin ∷ DeactivatePin ∷ []
 
 -- whether the command can be incoming at all
 abbrev pub transport_rules : List RuleRow
@@ -436,9 +561,11 @@ kind_rules =
     -- the reference names a password: 2 the CAN, 3 the PIN, 4 the PUK
     record { number = 11; status = fixed 0x6A88; kinds = SelectPace ∷ []; holds = λ s. names_password (selection_in s.command.body) } ∷
     -- by offset alone: there is a current file
-    record { number = 12; status = fixed 0x6986; kinds = ReadBinary ∷ []; holds = λ s. is_by_short s.command || is_some s.state.current } ∷
+    record { number = 12; status = fixed 0x6986; kinds = ReadBinary ∷ UpdateBinary ∷ []; holds = λ s. is_by_short s.command || is_some s.state.current } ∷
     -- the identifier is the application's, or names a file
-    record { number = 13; status = fixed 0x6A82; kinds = SelectApplication ∷ SelectFile ∷ ReadBinary ∷ []; holds = λ s. is_named s.kind s } ∷
+    record { number = 13; status = fixed 0x6A82; kinds = SelectApplication ∷ SelectFile ∷ ReadBinary ∷ UpdateBinary ∷ []; holds = λ s. is_named s.kind s } ∷
+    -- the file is a data group that may be written: 17 to 21
+    record { number = 14; status = fixed 0x6982; kinds = UpdateBinary ∷ []; holds = λ s. with_file (λ f. is_between 17 21 (group_of f)) (file_meant s) } ∷
     -- PACE begins with the PIN: it is active
     record { number = active_rule; status = fixed 0x6984; kinds = EncryptedNonce ∷ []; holds = λ s. not (starts_pin s.state.phase) || s.kept.fields.active } ∷
     -- a try is left
@@ -454,7 +581,8 @@ kind_rules =
     record {
       number = 20;
       status = fixed 0x6982;
-      kinds = ReadBinary ∷ SelectPublicKey ∷ AnnounceTerminal ∷ SelectChipAuthentication ∷ ChangePin ∷ UnblockPin ∷ [];
+      kinds = ReadBinary ∷ UpdateBinary ∷ SelectPublicKey ∷ AnnounceTerminal ∷ SelectChipAuthentication ∷ ChangePin ∷ UnblockPin ∷ ChangeCan ∷
+          ActivatePin ∷ DeactivatePin ∷ [];
       holds = λ s. reads_card_access s.kind (file_meant s) || is_some s.state.pace;
     } ∷
     -- in that PACE the holder gave a template
@@ -477,17 +605,24 @@ kind_rules =
       kinds = AnnounceTerminal ∷ [];
       holds = λ s. announces s.state.certificates (announcement_in s.command.body);
     } ∷
-    -- terminal authentication succeeded; no data group is given out at this stage
+    -- terminal authentication succeeded
     record {
       number = 26;
       status = fixed 0x6982;
-      kinds = ReadBinary ∷ SelectChipAuthentication ∷ [];
-      holds = λ s. follows_terminal s.kind (file_meant s) s.state.terminal;
+      kinds = ReadBinary ∷ UpdateBinary ∷ SelectChipAuthentication ∷ ChangeCan ∷ ActivatePin ∷ DeactivatePin ∷ [];
+      holds = λ s. not (wants_terminal s.kind (file_meant s)) || is_some s.state.terminal;
     } ∷
     -- no chip authentication succeeded after it
     record { number = 27; status = fixed 0x6985; kinds = SelectChipAuthentication ∷ []; holds = λ s. not s.state.chip_proven } ∷
-    -- that PACE was with the PIN, to change it, or with the PUK, to unblock the PIN
-    record { number = 29; status = fixed 0x6982; kinds = ChangePin ∷ UnblockPin ∷ []; holds = λ s. may_manage s.kind s.state.pace } ∷
+    -- chip authentication succeeded after it
+    record {
+      number = 28;
+      status = fixed 0x6982;
+      kinds = for_terminals;
+      holds = λ s. not (is_for_terminal s.kind (file_meant s)) || s.state.chip_proven;
+    } ∷
+    -- that PACE was with the PIN, to change it, or with the PUK, to unblock the PIN; or a terminal may manage it
+    record { number = 29; status = fixed 0x6982; kinds = ChangePin ∷ UnblockPin ∷ []; holds = λ s. may_manage s.kind s.state.pace || manages_pin s.state } ∷
     -- after PACE with the PUK: an unblocking is left
     record {
       number = 30;
@@ -495,14 +630,42 @@ kind_rules =
       kinds = UnblockPin ∷ [];
       holds = λ s. not (was_with is_puk s.state.pace) || nat_le 1 s.kept.fields.unblocks;
     } ∷
+    -- that PACE was with the PIN, or with the CAN, where that is allowed
+    record {
+      number = 31;
+      status = fixed 0x6982;
+      kinds = for_terminals;
+      holds = λ s. not (is_for_terminal s.kind (file_meant s)) || is_by_holder s.state;
+    } ∷
+    -- the application is selected
+    record {
+      number = 32;
+      status = fixed 0x6985;
+      kinds = ReadBinary ∷ UpdateBinary ∷ [];
+      holds = λ s. not (is_for_terminal s.kind (file_meant s)) || s.state.selected;
+    } ∷
+    -- its right is granted
+    record {
+      number = 33;
+      status = fixed 0x6982;
+      kinds = for_terminals;
+      holds = λ s. not (is_for_terminal s.kind (file_meant s)) || has_its_right s.kind (file_meant s) s.state;
+    } ∷
     -- the file is present
-    record { number = 37; status = fixed 0x6A82; kinds = ReadBinary ∷ []; holds = λ s. is_some (bytes_of_file s.kept (file_meant s)) } ∷
+    record { number = 37; status = fixed 0x6A82; kinds = ReadBinary ∷ UpdateBinary ∷ []; holds = λ s. is_some (bytes_of_file s.kept (file_meant s)) } ∷
     -- the offset is at most the file's length
     record {
       number = 38;
       status = fixed 0x6B00;
-      kinds = ReadBinary ∷ [];
+      kinds = ReadBinary ∷ UpdateBinary ∷ [];
       holds = λ s. nat_le (offset_meant s.command) (length (unwrap_or (bytes_of_file s.kept (file_meant s)) []));
+    } ∷
+    -- what is written ends at the file's end at the latest
+    record {
+      number = 39;
+      status = fixed 0x6A84;
+      kinds = UpdateBinary ∷ [];
+      holds = λ s. nat_le (offset_meant s.command + length s.command.body) (length (unwrap_or (bytes_of_file s.kept (file_meant s)) []));
     } ∷
     -- the terminal's point is the one that it announced
     record {

@@ -16,7 +16,7 @@ use Rattle.eid_ta.specs.AnnouncementIn.{announcement_in}
 use Rattle.eid_ca.specs.States.{PlainCaChosen}
 use Rattle.eid_ca.specs.Selections.{chosen_in, chosen_by as chip_chosen_by}
 use Rattle.eid_model.specs.declared.kind.Kind.{Kind}
-use Rattle.eid_model.specs.declared.kind.Kind.TheVariants.{SelectApplication, SelectMasterFile, SelectFile, ReadBinary, SelectPace, SelectPublicKey, VerifyCertificate, AnnounceTerminal, GetChallenge, ExternalAuthenticate, SelectChipAuthentication, EncryptedNonce, MapNonce, PerformKeyAgreement, MutualAuthentication, AuthenticateChip, ChangePin, UnblockPin, NoProtocol, NoStep}
+use Rattle.eid_model.specs.declared.kind.Kind.TheVariants.{SelectApplication, SelectMasterFile, SelectFile, ReadBinary, UpdateBinary, SelectPace, SelectPublicKey, VerifyCertificate, AnnounceTerminal, GetChallenge, ExternalAuthenticate, SelectChipAuthentication, EncryptedNonce, MapNonce, PerformKeyAgreement, MutualAuthentication, AuthenticateChip, ChangePin, UnblockPin, ChangeCan, ActivatePin, DeactivatePin, NoProtocol, NoStep}
 use Rattle.eid_model.specs.Kinds.{kind_named, has_form_of, step_after, begins_run, goes_on_in_run}
 use Rattle.eid_model.specs.Moments.{PlainMoment, succeeded}
 use Rattle.eid_model.specs.Chains.{fragment, request_of}
@@ -108,6 +108,7 @@ entered SelectApplication c answers before = Idle
 entered SelectMasterFile c answers before = Idle
 entered SelectFile c answers before = Idle
 entered ReadBinary c answers before = Idle
+entered UpdateBinary c answers before = Idle
 entered SelectPace c answers before = as_chosen (choice_in c.body)
 entered SelectPublicKey c answers before = as_named (key_name_in c.body)
 entered VerifyCertificate c answers before = Idle
@@ -122,6 +123,9 @@ entered MutualAuthentication c answers before = Idle
 entered AuthenticateChip c answers before = Idle
 entered ChangePin c answers before = Idle
 entered UnblockPin c answers before = Idle
+entered ChangeCan c answers before = Idle
+entered ActivatePin c answers before = Idle
+entered DeactivatePin c answers before = Idle
 entered NoProtocol c answers before = Idle
 entered NoStep c answers before = Idle
 
@@ -178,6 +182,7 @@ claimed SelectApplication c answers context before = NotBegun
 claimed SelectMasterFile c answers context before = NotBegun
 claimed SelectFile c answers context before = NotBegun
 claimed ReadBinary c answers context before = NotBegun
+claimed UpdateBinary c answers context before = NotBegun
 claimed SelectPace c answers context before = NotBegun
 claimed SelectPublicKey c answers context before = NotBegun
 claimed VerifyCertificate c answers context before = NotBegun
@@ -192,6 +197,9 @@ claimed MutualAuthentication c answers context before = NotBegun
 claimed AuthenticateChip c answers context before = NotBegun
 claimed ChangePin c answers context before = NotBegun
 claimed UnblockPin c answers context before = NotBegun
+claimed ChangeCan c answers context before = NotBegun
+claimed ActivatePin c answers context before = NotBegun
+claimed DeactivatePin c answers context before = NotBegun
 claimed NoProtocol c answers context before = NotBegun
 claimed NoStep c answers context before = NotBegun
 

@@ -18,7 +18,7 @@ use Rattle.eid_ca.specs.Keys.{enc_key, mac_key}
 use Rattle.eid_trust.specs.Trust.{is_link, is_verifier_role, is_terminal_role, no_sectors, party_of, point_named}
 use Rattle.eid_sm.specs.Keys.{Keys, ChannelState}
 use Rattle.eid_model.specs.declared.kind.Kind.{Kind}
-use Rattle.eid_model.specs.declared.kind.Kind.TheVariants.{SelectApplication, SelectMasterFile, SelectFile, ReadBinary, SelectPace, SelectPublicKey, VerifyCertificate, AnnounceTerminal, GetChallenge, ExternalAuthenticate, SelectChipAuthentication, EncryptedNonce, MapNonce, PerformKeyAgreement, MutualAuthentication, AuthenticateChip, ChangePin, UnblockPin, NoProtocol, NoStep}
+use Rattle.eid_model.specs.declared.kind.Kind.TheVariants.{SelectApplication, SelectMasterFile, SelectFile, ReadBinary, UpdateBinary, SelectPace, SelectPublicKey, VerifyCertificate, AnnounceTerminal, GetChallenge, ExternalAuthenticate, SelectChipAuthentication, EncryptedNonce, MapNonce, PerformKeyAgreement, MutualAuthentication, AuthenticateChip, ChangePin, UnblockPin, ChangeCan, ActivatePin, DeactivatePin, NoProtocol, NoStep}
 use Rattle.eid_model.specs.Kinds.{is_by_short, file_of_short, file_of_id}
 use Rattle.eid_model.specs.Moments.{PlainMoment, ends_session}
 use Rattle.eid_model.specs.Chains.{chaining, request_of}
@@ -34,6 +34,7 @@ selects SelectApplication = Some true
 selects SelectMasterFile = Some false
 selects SelectFile = None
 selects ReadBinary = None
+selects UpdateBinary = None
 selects SelectPace = None
 selects SelectPublicKey = None
 selects VerifyCertificate = None
@@ -48,6 +49,9 @@ selects MutualAuthentication = None
 selects AuthenticateChip = None
 selects ChangePin = None
 selects UnblockPin = None
+selects ChangeCan = None
+selects ActivatePin = None
+selects DeactivatePin = None
 selects NoProtocol = None
 selects NoStep = None
 
@@ -61,6 +65,7 @@ names SelectApplication c = None
 names SelectMasterFile c = None
 names SelectFile c = file_of_id (number_of_two c.body)
 names ReadBinary c = if is_by_short c then file_of_short (c.p1 - 0x80) else None
+names UpdateBinary c = if is_by_short c then file_of_short (c.p1 - 0x80) else None
 names SelectPace c = None
 names SelectPublicKey c = None
 names VerifyCertificate c = None
@@ -75,6 +80,9 @@ names MutualAuthentication c = None
 names AuthenticateChip c = None
 names ChangePin c = None
 names UnblockPin c = None
+names ChangeCan c = None
+names ActivatePin c = None
+names DeactivatePin c = None
 names NoProtocol c = None
 names NoStep c = None
 
@@ -110,6 +118,7 @@ pace_done SelectApplication phase = None
 pace_done SelectMasterFile phase = None
 pace_done SelectFile phase = None
 pace_done ReadBinary phase = None
+pace_done UpdateBinary phase = None
 pace_done SelectPace phase = None
 pace_done SelectPublicKey phase = None
 pace_done VerifyCertificate phase = None
@@ -124,6 +133,9 @@ pace_done MutualAuthentication phase = done_with phase
 pace_done AuthenticateChip phase = None
 pace_done ChangePin phase = None
 pace_done UnblockPin phase = None
+pace_done ChangeCan phase = None
+pace_done ActivatePin phase = None
+pace_done DeactivatePin phase = None
 pace_done NoProtocol phase = None
 pace_done NoStep phase = None
 
@@ -155,6 +167,7 @@ keys_by SelectApplication given phase = None
 keys_by SelectMasterFile given phase = None
 keys_by SelectFile given phase = None
 keys_by ReadBinary given phase = None
+keys_by UpdateBinary given phase = None
 keys_by SelectPace given phase = None
 keys_by SelectPublicKey given phase = None
 keys_by VerifyCertificate given phase = None
@@ -169,6 +182,9 @@ keys_by MutualAuthentication given phase = option_map keys_of (done_with phase)
 keys_by AuthenticateChip given phase = keys_agreed given
 keys_by ChangePin given phase = None
 keys_by UnblockPin given phase = None
+keys_by ChangeCan given phase = None
+keys_by ActivatePin given phase = None
+keys_by DeactivatePin given phase = None
 keys_by NoProtocol given phase = None
 keys_by NoStep given phase = None
 
@@ -207,6 +223,7 @@ accepts SelectApplication c = None
 accepts SelectMasterFile c = None
 accepts SelectFile c = None
 accepts ReadBinary c = None
+accepts UpdateBinary c = None
 accepts SelectPace c = None
 accepts SelectPublicKey c = None
 accepts VerifyCertificate c = option_map (λ certificate. certificate.body) (certificate_in c.body)
@@ -221,6 +238,9 @@ accepts MutualAuthentication c = None
 accepts AuthenticateChip c = None
 accepts ChangePin c = None
 accepts UnblockPin c = None
+accepts ChangeCan c = None
+accepts ActivatePin c = None
+accepts DeactivatePin c = None
 accepts NoProtocol c = None
 accepts NoStep c = None
 
@@ -298,6 +318,7 @@ makes_known SelectApplication before = None
 makes_known SelectMasterFile before = None
 makes_known SelectFile before = None
 makes_known ReadBinary before = None
+makes_known UpdateBinary before = None
 makes_known SelectPace before = None
 makes_known SelectPublicKey before = None
 makes_known VerifyCertificate before = None
@@ -312,6 +333,9 @@ makes_known MutualAuthentication before = None
 makes_known AuthenticateChip before = None
 makes_known ChangePin before = None
 makes_known UnblockPin before = None
+makes_known ChangeCan before = None
+makes_known ActivatePin before = None
+makes_known DeactivatePin before = None
 makes_known NoProtocol before = None
 makes_known NoStep before = None
 
@@ -341,6 +365,7 @@ proves_chip SelectApplication = None
 proves_chip SelectMasterFile = None
 proves_chip SelectFile = None
 proves_chip ReadBinary = None
+proves_chip UpdateBinary = None
 proves_chip SelectPace = None
 proves_chip SelectPublicKey = None
 proves_chip VerifyCertificate = None
@@ -355,6 +380,9 @@ proves_chip MutualAuthentication = Some false
 proves_chip AuthenticateChip = Some true
 proves_chip ChangePin = None
 proves_chip UnblockPin = None
+proves_chip ChangeCan = None
+proves_chip ActivatePin = None
+proves_chip DeactivatePin = None
 proves_chip NoProtocol = None
 proves_chip NoStep = None
 

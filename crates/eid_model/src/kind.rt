@@ -9,6 +9,8 @@ pub enum Kind {
     SelectFile,
     /// READ BINARY, by short identifier or from the current file.
     ReadBinary,
+    /// UPDATE BINARY, by short identifier or of the current file.
+    UpdateBinary,
     /// MSE:Set AT for PACE: chooses the password.
     SelectPace,
     /// MSE:Set DST: names the public key that verifies the next certificate.
@@ -37,6 +39,12 @@ pub enum Kind {
     ChangePin,
     /// RESET RETRY COUNTER without one: the tries of the PIN are given back.
     UnblockPin,
+    /// RESET RETRY COUNTER with a new card access number.
+    ChangeCan,
+    /// ACTIVATE of the PIN.
+    ActivatePin,
+    /// DEACTIVATE of the PIN.
+    DeactivatePin,
     /// An MSE:Set AT that names no protocol of its parameters.
     NoProtocol,
     /// A step that the run has not come to.

@@ -14,3 +14,6 @@ pub returns-clause-small : goal.returns-clause-small
 returns-clause-small g c =
     let held = held_length c.args.store.now (g.E.Eeprom.device c.args.cells.now) (g.E.Eeprom.cells c.args.cells.now) c.args.file.0 (g.met.E.Eeprom.count c.args.cells.now) c.requires in
     subst (λ (o : Option ℕ). IfSome o (λ n. n ≤ 2048)) (ap (λ (r : PlainRecord). slice_index_or r.lengths c.args.file.0 None) (sym c.kept.ensures) ∙ sym c.kept_length.ensures) held.1
+
+pub returns-clause-entry : goal.returns-clause-entry
+returns-clause-entry g c = ap (λ (r : PlainRecord). slice_index_or r.lengths c.args.file.0 None) (sym c.kept.ensures) ∙ sym c.kept_length.ensures

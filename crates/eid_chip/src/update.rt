@@ -1,0 +1,95 @@
+//! UPDATE BINARY (ISO/IEC 7816-4).
+ghost use Rattle.std.specs.Prelude.{◌≡◌, ◌≤◌, length, if◌then◌else◌};
+ghost use Rattle.arrayvec.specs.ArrayVec.{array_vec_len};
+ghost use Rattle.eid_apdu.specs.Answer.{plain_reply};
+ghost use Rattle.eid_apdu.specs.Command.{plain_command};
+ghost use Rattle.eid_bits.specs.Date.{is_between};
+ghost use Rattle.eid_copro.specs.Seen.{CoproSeen};
+ghost use Rattle.eid_store.specs.Store as stored;
+ghost use Rattle.eid_model.specs.Kinds.{is_by_short};
+ghost use Rattle.eid_model.specs.Rules.{group_of};
+ghost use Rattle.eid_chip.specs.Steps.{Performed};
+ghost use Rattle.eid_chip.specs.Worlds.{world};
+
+use crate::ending::{refused, uncommitted};
+use crate::files;
+use crate::pin::commit_one;
+use crate::reaction::Ending;
+use crate::refusal::{
+    BEHIND_END, BODY_FORM, NO_CURRENT_FILE, NO_FILE, NOT_NAMED, NOT_WRITABLE, OFFSET,
+};
+use crate::rights::check_writing;
+use crate::select::{meant_file, meant_offset};
+use crate::session::{Change, Session};
+use eid_apdu::{Command, Reply};
+use eid_cells::Eeprom;
+use eid_model::Kind;
+use eid_record::{Effect, FileNo};
+use eid_store::Store;
+
+/// Whether the file is a data group that may be written: 17 to 21.
+fn is_writable(file: FileNo) -> bool
+    ensures { result ≡ is_between 17 21 (group_of file.0) }
+{
+    18 <= file.0 && file.0 <= 22
+}
+
+/// What an UPDATE BINARY of a file changes in the session: a short identifier names it.
+fn naming(c: &Command<'_>, file: FileNo) -> Change
+    ensures { result ≡ (if is_by_short (plain_command c.now) then Change.Current file else Change.Nothing) }
+{
+    if c.p1 < 0x80 {
+        Change::Nothing
+    } else {
+        Change::Current(file)
+    }
+}
+
+/// UPDATE BINARY. Rule 10 is an empty body, rule 12 that there is no current file, rule 13 an unknown identifier, rule 14 a
+/// file that may not be written, the rules 20, 26, 28, 31, 32 and 33 are those of `check_writing`, rule 37 is that the file is absent, rule 38 an offset behind its end, rule 39 more bytes than there are from there on,
+/// rule 54 that there is no commit number left.
+pub fn update_binary<E: Eeprom>(
+    session: Session,
+    store: &mut Store,
+    cells: &mut E,
+    c: &Command<'_>,
+    reply: &mut Reply,
+) -> Ending
+    requires fits { stored.Fits store.old (E.device cells.old) (E.cells cells.old) }
+    requires short { length c.now.body.now ≤ 2048 }
+    ensures performed { (copro : CoproSeen) → Performed Kind.UpdateBinary session (plain_command c.now) result (plain_reply reply.new)
+        (world copro store.old (E.device cells.old) (E.cells cells.old)) (world copro store.new (E.device cells.new) (E.cells cells.new)) }
+    ensures small { array_vec_len reply.new.content ≤ 2048 }
+{
+    if c.body.is_empty() {
+        return uncommitted(refused(BODY_FORM, session, reply));
+    }
+    if c.p1 < 0x80 && session.memory.current.is_none() {
+        return uncommitted(refused(NO_CURRENT_FILE, session, reply));
+    }
+    let Some(file) = meant_file(&session, c) else {
+        return uncommitted(refused(NOT_NAMED, session, reply));
+    };
+    if !is_writable(file) {
+        return uncommitted(refused(NOT_WRITABLE, session, reply));
+    }
+    if let Err(refusal) = check_writing(&session.memory, file) {
+        return uncommitted(refused(refusal, session, reply));
+    }
+    let Some(length) = files::file_length(store, cells, file) else {
+        return uncommitted(refused(NO_FILE, session, reply));
+    };
+    let offset = meant_offset(c);
+    if offset > length {
+        return uncommitted(refused(OFFSET, session, reply));
+    }
+    if c.body.len() > usize::from(length - offset) {
+        return uncommitted(refused(BEHIND_END, session, reply));
+    }
+    let effect = Effect::Write {
+        file,
+        offset,
+        bytes: c.body,
+    };
+    commit_one(&effect, naming(c, file), session, store, cells, reply)
+}
