@@ -397,6 +397,116 @@ const UNDER_NEW_KEYS: &str = "apdu 0cb09d000d9701008e08057bc9e50605027000
 apdu 0c2241a41d87110184d51aca24348703b245b79777e84e038e08b5a4c276f955d97c00
 ";
 
+// In the channel of STEP_4 READ BINARY of data group 4, UPDATE BINARY of data group 17, a new CAN and a new PIN.
+#[rattlefmt::skip]
+const GROUPS_AFTER_PACE: &str = "apdu 0cb084000d9701008e08310fc2b959e8bc2300
+apdu 0cd691001d871101fe40f3fe13c2e79f4be85327ae3c29098e08a71cb7a43563617000
+apdu 0c2c02021d871101599e73a1030d85ce9dd87023db22df728e0839fcbd15c6d5629200
+apdu 0c2c02031d871101de135bd055ea83fc0ef4e454b0cc89108e081812d4941758fdd000
+";
+
+// Behind AUTHENTICATED the read and the write, deactivation of the PIN, and its unblocking.
+#[rattlefmt::skip]
+const GROUPS_OF_A_TERMINAL: &str = "apdu 0cb084000d9701008e08dba01ca3735219ed00
+apdu 0cd691001d871101109e65c740b904bdd3b87a9fa56d2cc28e083024b0363c2623a800
+apdu 0c0410030a8e0856e47f64eccaf73e00
+apdu 0c2c03030a8e08090acad7227030aa00
+";
+
+// Behind CHIP_AUTHENTICATED, where the templates lack the bit for the CAN, the read and the write, activation, and a new PIN.
+#[rattlefmt::skip]
+const GROUPS_WITHOUT_THE_CAN: &str = "apdu 0cb084000d9701008e08fbd43ced856373bb00
+apdu 0cd691001d8711011adfc4422945e4db549e311f21bc7d6f8e083102f9a3ff1aa8f200
+apdu 0c4410030a8e08b6e9f1caccc7bc1000
+apdu 0c2c02031d8711011b190ea0c981d3d99f811c959cd58c4c8e0881a1a5fbcf96053700
+";
+
+// UPDATE BINARY without a channel: of data group 17 in fragments, of data group 16, and of no current file.
+#[rattlefmt::skip]
+const WRITTEN_EARLY: &str = "apdu 10d6910001ab
+apdu 00d6910001cd
+apdu 00d6900001cd
+apdu 00d6000001cd
+";
+
+// PACE, certificates and authentications whose templates have the bits for the CAN and the management, to read data groups
+// 4, 9 and 17 and to write 17; and what they come to.
+#[rattlefmt::skip]
+const WITH_RIGHTS: &str = "apdu 0022c1a424800a04007f000702020402028301027f4c12060904007f00070301020253052001010830
+apdu 10860000027c0000
+apdu 10860000457c43814104000000000000000000000000000000000000000000000000e3e10338a6bccd8b000000000000000000000000000000000000000000000000000000000000000000
+apdu 10860000457c438341040000000000000000000000000000000000000000000000004743b10dccc908a7000000000000000000000000000000000000000000000000000000000000000000
+apdu 008600000c7c0a8508b5507fac391ab3fd00
+apdu 0c2281b61d8711017561397bfda597330ccedef9ec7447598e08f8e0d4a58ad8327e00
+apdu 0c2a00befe8781f10131a0a028a298d3e69aad141d3c40b17c45c6e9decc3841efd4526085fd53710dc0a5436d34b1b8e532bed7ebf0dfadab54f926668ad83a18480290eccc95684dafae713f2b1e2b040dc269f1766a7473b8b5b1a8f205cf6a25a46caa6ff33b1ed9a58f02c14e82bde1801a94119bde882d56b5fc9d4b53adfe9a18065d21f26f9997cb798e7214a551c32bd4e284c41859153c9d09a0a5e33c922d998e752b64c1c2a212d12bb6c21d52bbc053ce28dc0a3d72a2c9fa565197a2e9c8fe0841a8840af20c3d5893e88e8f0cbab66acfe0cc455b7f6fc3d53ac8a73c3735ef82bdcacb5c6ca628152716ab61c0b8ae85f38e083f9a6979dccbdd8500
+apdu 0c2281b61d871101402630cd9c79594ea54d15aaa49eb3bb8e0887ff668e57ce747800
+apdu 0c2a00befe8781f101931e2f9ba9717e930ca7e0ec89ad3c7c73995a42739d079fe2c2799a961c64a6e62a9aef59f729a41f8939ead61f0943567cf195c22ba052bbc872438d0ed3adb4ed1b67275c046c0c04ea952eb641f3f18e17ea41706f85e371a375cc76fa80872581f2cdf98cc5f4c6e72561a912bf9c08092ec0e17da490f1653f30c542d3ed93ce55c5039806c37f878f7b2128176f0b82306ed26dc5e94f1a7ddfb976b4e35ed508675d1ab6d44b79aa77a470cae20691335dd32eab62dd367affe918102132702e8c8950a9647c1f008df326eb3adac080f0122ce9723b84f34fa5e862b980c4a24b693e9e5530d58804096dd38e0863f4a92c035feec900
+apdu 0c2281a44d874101581cdb0a1894531fc6759ea2fb113b4121d9344db5a54bae675e8814137aede14db496c495e87f7aa07591640e40a04a49adcb1d4712e656f7a3022c72e759ad8e08d45fe76d84c4096d00
+apdu 0c8400000d9701008e08c7c61ac8aba5ac2500
+apdu 0c8200005d8751017a7404e5932cf2a2453e135d89957bcc7f453436c04ed51271eed47c4eb58308fa35a2d5bf17b0f0fabd3aed1bfb56d47cf02cdbf272b0cb0387b822e9e4f8407c2785e09c02faafd527c4e4bfcc57118e089d7f5789159276e600
+apdu 0c2241a41d8711015079b00516ae591dfbdefa5b8c6c3c9f8e08dcdfbd1a626e201b00
+apdu 0c860000608751011e481668dde90b068cb84bdd4643f331a4aef20278209b07ded141b2d78105f3b444af651dd500c842305ae5b09841b71d5138ee0b148852cc8a0ad856fd4d3ded7ddd6ac88e027bf8eb097a33424eab9701008e08f339b44908d9a97800
+";
+
+#[rattlefmt::skip]
+const WITH_RIGHTS_TOLD: &str = " rule 0
+ answer 9000
+ rule 0
+ answer 7c128010dd19df18f5215646bdf27199eee4adf39000
+ rule 0
+ answer 7c438241040000000000000000000000000000000000000000000000006d300153a979d16700000000000000000000000000000000000000000000000000000000000000009000
+ rule 0
+ answer 7c43844104000000000000000000000000000000000000000000000000ef5a4277298455b900000000000000000000000000000000000000000000000000000000000000009000
+ rule 0
+ answer 7c1986081cd74679bd54f330870d444543564341415430303030319000
+ rule 0
+ answer 9000
+ rule 0
+ answer 9000
+ rule 0
+ answer 9000
+ rule 0
+ answer 9000
+ rule 0
+ answer 9000
+ rule 0
+ answer 8b1ae42fc4b177269000
+ rule 0
+ answer 9000
+ rule 0
+ answer 9000
+ rule 0
+ answer 7c14810865be554fa6188b188208e026a359ea88efa59000
+";
+
+// Behind them reads of data group 4 before and behind the selection of the application, of data group 9, which is absent,
+// and of 5.
+#[rattlefmt::skip]
+const READ_WITH_RIGHTS: &str = "apdu 0cb084000d9701008e08fbd43ced856373bb00
+apdu 0ca4040c1d871101dab670727b7b6e7c68d95f9eca37a74f8e08b90593ee1fb5e33400
+apdu 0cb084000d9701008e081d9a4461424a3e7e00
+apdu 0cb089000d9701008e089411d7f93b76686600
+apdu 0cb085000d9701008e08c822f357fd9ff54800
+";
+
+// Behind these a write of data group 17, its bytes, a write behind its end, and one of data group 18.
+#[rattlefmt::skip]
+const WRITTEN_WITH_RIGHTS: &str = "apdu 0cd691001d871101c2f4e31dc894877d0e251c104b7f35db8e0823ff544715fbc01100
+apdu 0cb091000d9701008e08117cc8f84cbc4aa500
+apdu 0cd691071d871101cb5f0491fec6c69a9aafa941840ae7e08e08abae807ccd471d7200
+apdu 0cd692001d871101e89e1b58f4727ec73be19e1acc59c91c8e087befd050b4ba72ff00
+";
+
+// Behind these a new CAN, the PIN unblocked, set and deactivated; its selection; and its activation.
+#[rattlefmt::skip]
+const MANAGED_WITH_RIGHTS: &str = "apdu 0c2c02021d8711018abcde00dbe939acf07887ea095837118e082a20e6e21443065800
+apdu 0c2c03030a8e0872b38d99b2f28cb500
+apdu 0c2c02031d871101bb6661de36373fdee5ddb030c0b6f5648e08da4a7da52105d11400
+apdu 0c0410030a8e08e464f992b1d55c8200
+apdu 0c22c1a41d8711013abb716fff342fa5f6e3ade55cfa3a9c8e08f692ec6732e91fe900
+apdu 0c4410030a8e080e08dd1f324776b300
+";
+
 /// What is sent behind a power on, and what it comes to.
 struct Session {
     /// What the row shows.
@@ -721,6 +831,51 @@ const CHIPS: [Session; 3] = [
     },
 ];
 
+/// Those without the right to read, write or manage.
+#[rattlefmt::skip]
+const RIGHTS: [Session; 3] = [
+    Session {
+        shows: "in the channel of PACE no data group is read or written, and no CAN or PIN set", config: ACCESS, said: RUN, answers: &[],
+        with: Password::Can, sent: 5, carried_out: 5,
+        more: &[GROUPS_AFTER_PACE],
+        told: &[" rule 26\n answer 6982\n rule 26\n answer 6982\n rule 26\n answer 6982\n rule 29\n answer 6982\n"],
+        kept: true,
+    },
+    Session {
+        shows: "behind terminal authentication they need chip authentication too", config: ACCESS, said: RUN, answers: &[],
+        with: Password::Can, sent: 5, carried_out: 5,
+        more: &[VERIFIER, TERMINAL, AUTHENTICATED, GROUPS_OF_A_TERMINAL],
+        told: &[DONE, DONE, DONE, DONE, AUTHENTICATED_TOLD, " rule 28\n answer 6982\n rule 28\n answer 6982\n rule 28\n answer 6982\n rule 29\n answer 6982\n"],
+        kept: true,
+    },
+    Session {
+        shows: "after PACE with the CAN they need the bit for the CAN", config: ACCESS, said: RUN, answers: &[],
+        with: Password::Can, sent: 5, carried_out: 5,
+        more: &[VERIFIER, TERMINAL, AUTHENTICATED, CHIP_AUTHENTICATED, GROUPS_WITHOUT_THE_CAN],
+        told: &[DONE, DONE, DONE, DONE, AUTHENTICATED_TOLD, CHIP_AUTHENTICATED_TOLD, " rule 31\n answer 6982\n rule 31\n answer 6982\n rule 31\n answer 6982\n rule 29\n answer 6982\n"],
+        kept: true,
+    },
+];
+
+/// Those with writes of data groups, and the management.
+#[rattlefmt::skip]
+const WRITES: [Session; 2] = [
+    Session {
+        shows: "without PACE fragments of a write are taken and the write is refused", config: ACCESS, said: RUN, answers: &[],
+        with: Password::Can, sent: 0, carried_out: 0,
+        more: &[WRITTEN_EARLY],
+        told: &[" rule 0\n answer 9000\n rule 20\n answer 6982\n rule 14\n answer 6982\n rule 12\n answer 6986\n"],
+        kept: true,
+    },
+    Session {
+        shows: "with rights a terminal reads and writes data groups of the selected application, and manages CAN and PIN", config: ACCESS, said: RUN, answers: &[],
+        with: Password::Can, sent: 0, carried_out: 0,
+        more: &[WITH_RIGHTS, READ_WITH_RIGHTS, WRITTEN_WITH_RIGHTS, MANAGED_WITH_RIGHTS],
+        told: &[WITH_RIGHTS_TOLD, " rule 32\n answer 6985\n rule 0\n answer 9000\n rule 0\n answer 4552494b419000\n rule 37\n answer 6a82\n rule 33\n answer 6982\n", " rule 0\n answer 9000\n rule 0\n answer abcd0000000000009000\n rule 39\n answer 6a84\n rule 33\n answer 6982\n", " rule 0\n answer 9000\n rule 0\n answer 9000\n rule 0\n answer 9000\n rule 0\n answer 9000\n rule 0\n answer 6283\n rule 0\n answer 9000\n"],
+        kept: false,
+    },
+];
+
 /// The lines of a trace that have a rule or an answer.
 fn rules_and_answers(rt: &HostRuntime, trace: &[u8]) -> Result<Vec<u8>, AllocError> {
     let mut told = Vec::new(rt.alloc());
@@ -817,6 +972,22 @@ fn each_terminal_has_its_rule_and_answer(rt: HostRuntime) -> Result<(), Fail> {
 #[test]
 fn each_chip_authentication_has_its_rule_and_answer(rt: HostRuntime) -> Result<(), Fail> {
     for session in &CHIPS {
+        assert!(rt; is_so(&rt, session)?, "{}", session.shows);
+    }
+    Ok(())
+}
+
+#[test]
+fn each_command_without_a_right_has_its_rule_and_answer(rt: HostRuntime) -> Result<(), Fail> {
+    for session in &RIGHTS {
+        assert!(rt; is_so(&rt, session)?, "{}", session.shows);
+    }
+    Ok(())
+}
+
+#[test]
+fn each_write_has_its_rule_and_answer(rt: HostRuntime) -> Result<(), Fail> {
+    for session in &WRITES {
         assert!(rt; is_so(&rt, session)?, "{}", session.shows);
     }
     Ok(())
