@@ -34,16 +34,16 @@ use Rattle.eid_model.proofs.Compared.{is_compared, compared_due, token_wrong, tr
 -- ---- a moment that was answered
 
 -- where it was answered
-abbrev at : FullRecord → List PlainMoment → Incoming → PlainMoment → Situation
+abbrev pub at : FullRecord → List PlainMoment → Incoming → PlainMoment → Situation
 at opening before incoming m = situation_after opening before incoming (answers_of m.asks)
 
 -- It was a command to a chip with power, and all effects due were committed.
-record IsAnswered (opening : FullRecord) (before : List PlainMoment) (m : PlainMoment) : Type 0 where
-  bytes : List ℕ
-  incoming : Incoming
-  input : m.input ≡ Received bytes
-  power : on before ≡ true
-  moment : m ≡ answered (channel (live before)) bytes incoming m.asks (length (due (at opening before incoming m))) (outcome (at opening before incoming m))
+pub record IsAnswered (opening : FullRecord) (before : List PlainMoment) (m : PlainMoment) : Type 0 where
+  pub bytes : List ℕ
+  pub incoming : Incoming
+  pub input : m.input ≡ Received bytes
+  pub power : on before ≡ true
+  pub moment : m ≡ answered (channel (live before)) bytes incoming m.asks (length (due (at opening before incoming m))) (outcome (at opening before incoming m))
 
 not_silent : (e : Event) (m : PlainMoment) → m ≡ silent e → is_some m.answer ≡ true → ⊥
 not_silent e m is answer = let none : is_some m.answer ≡ false = ap (λ (x : PlainMoment). is_some x.answer) is in cc
@@ -54,7 +54,7 @@ answered_by opening before m bytes incoming None is power none answer moment = a
 answered_by opening before m bytes incoming (Some reply) is power some answer moment =
     record { bytes = bytes; incoming = incoming; input = is; power = power; moment = moment }
 
-answered_for : (e : Event) (opening : FullRecord) (before : List PlainMoment) (m : PlainMoment) → m.input ≡ e → IsLegalFor e opening before m → is_some m.answer ≡ true → IsAnswered opening before m
+pub answered_for : (e : Event) (opening : FullRecord) (before : List PlainMoment) (m : PlainMoment) → m.input ≡ e → IsLegalFor e opening before m → is_some m.answer ≡ true → IsAnswered opening before m
 answered_for (PoweredOn found) opening before m is legal answer = absurd (not_silent (PoweredOn found) m legal.1 answer)
 answered_for PoweredOff opening before m is legal answer = absurd (not_silent PoweredOff m legal answer)
 answered_for (Received bytes) opening before m is legal answer = handled (on before) refl where
@@ -65,10 +65,10 @@ answered_for (Received bytes) opening before m is legal answer = handled (on bef
   handled false power = absurd (not_silent (Received bytes) m (legal.unpowered power) answer)
 
 -- the command, the rule, and the kind
-plain_so : (opening : FullRecord) (before : List PlainMoment) (m : PlainMoment) (a : IsAnswered opening before m) → m.plain ≡ plain_of a.incoming
+pub plain_so : (opening : FullRecord) (before : List PlainMoment) (m : PlainMoment) (a : IsAnswered opening before m) → m.plain ≡ plain_of a.incoming
 plain_so opening before m a = ap (λ (x : PlainMoment). x.plain) a.moment
 
-rule_so : (opening : FullRecord) (before : List PlainMoment) (m : PlainMoment) (a : IsAnswered opening before m) → m.rule ≡ (outcome (at opening before a.incoming m)).rule
+pub rule_so : (opening : FullRecord) (before : List PlainMoment) (m : PlainMoment) (a : IsAnswered opening before m) → m.rule ≡ (outcome (at opening before a.incoming m)).rule
 rule_so opening before m a = ap (λ (x : PlainMoment). x.rule) a.moment
 
 kind_of : (opening : FullRecord) (before : List PlainMoment) (incoming : Incoming)

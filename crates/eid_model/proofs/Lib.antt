@@ -7,4 +7,5 @@ pub mod Books
 pub mod Forms
 pub mod Compared
 pub mod Laws
+pub mod Access
 pub mod KeyNames

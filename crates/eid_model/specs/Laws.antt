@@ -1,16 +1,21 @@
--- The words of the laws about the tries of the PIN: what the newest moment was, by looking back over a journal (BSI
--- TR-03110-2, TR-03110-3).
-use Rattle.std.specs.Prelude.{ℕ, ◌+◌, Bool, true, false, ◌==◌, ◌&&◌, ◌||◌, List, [], ◌∷◌, ◌++◌, Option, Some, None, is_some, option_and_then, if◌then◌else◌}
-use Rattle.std.specs.List.{list_any}
-use Rattle.eid_record.specs.Plain.{PlainEffect, Spend, Refill, Unblock, SetPin, SetCan, Active, Advance, Write}
+-- The words of the laws: what the newest moment was, by looking back over a journal (BSI TR-03110-2, TR-03110-3), and when
+-- a data group is answered (BSI TR-03110-4).
+use Rattle.std.specs.Prelude.{◌≡◌, ℕ, ◌+◌, Bool, true, false, not, ◌==◌, ◌&&◌, ◌||◌, List, [], ◌∷◌, ◌++◌, Option, Some, None, is_some, option_and_then, if◌then◌else◌}
+use Rattle.std.specs.List.{list_all, list_any}
+use Rattle.eid_apdu.specs.Command.{PlainCommand}
+use Rattle.eid_bits.specs.Date.{is_between}
+use Rattle.eid_record.specs.Plain.{FullRecord, PlainEffect, Spend, Refill, Unblock, SetPin, SetCan, Active, Advance, Write}
 use Rattle.eid_password.specs.Passwords.{is_pin}
 use Rattle.eid_model.specs.declared.kind.Kind.{Kind}
-use Rattle.eid_model.specs.declared.kind.Kind.TheVariants.{MutualAuthentication}
+use Rattle.eid_model.specs.declared.kind.Kind.TheVariants.{MutualAuthentication, ReadBinary}
 use Rattle.eid_model.specs.Kinds.{same_kind, kind_named}
 use Rattle.eid_model.specs.Moments.{PlainMoment, live}
 use Rattle.eid_model.specs.Chains.{request_of}
-use Rattle.eid_model.specs.Runs.{run, next, Phase, Idle, Chose, SentNonce, HasBase, HasSecret, ChoseKey, phase}
-use Rattle.eid_model.specs.Rules.{proves_pin}
+use Rattle.eid_model.specs.Sessions.{State}
+use Rattle.eid_model.specs.Answers.{rules_before}
+use Rattle.eid_model.specs.Legal.{situation_after}
+use Rattle.eid_model.specs.Runs.{answers_of, run, next, Phase, Idle, Chose, SentNonce, HasBase, HasSecret, ChoseKey, phase}
+use Rattle.eid_model.specs.Rules.{OfCommand, RuleRow, Situation, answer_rules, chain_gave, commit_rules, concerns, file_meant, group_of, holder_gave, is_of, proof_rules, proves_pin}
 
 -- the kind of the request that ended with the newest moment, whether it was carried out or not
 abbrev pub kind_sent : PlainMoment → List PlainMoment → Option Kind
@@ -59,3 +64,42 @@ goes_on_with_pin (SentNonce sent) = is_pin sent.choice.password
 goes_on_with_pin (HasBase mapped) = is_pin mapped.choice.password
 goes_on_with_pin (HasSecret agreed) = is_pin agreed.choice.password
 goes_on_with_pin (ChoseKey name) = false
+
+-- ---- data groups
+
+-- where the command is answered that was sent in the newest moment
+abbrev pub sent_at : FullRecord → List PlainMoment → PlainCommand → PlainMoment → Situation
+sent_at opening before c m = situation_after opening before (OfCommand c) (answers_of m.asks)
+
+-- the number of the data group that a file is: 1 to 21
+abbrev pub data_group : ℕ → Option ℕ
+data_group file = if is_between 1 21 (group_of file) then Some (group_of file) else None
+
+-- the data group that a READ BINARY reads
+abbrev pub group_read : Situation → Option ℕ
+group_read s = if is_of ReadBinary s.kind then option_and_then data_group (file_meant s) else None
+
+-- The session has completed PACE, terminal authentication and chip authentication, and this right stands in the template that
+-- the holder gave in that PACE, and in those of the trust point, the document verifier and the terminal.
+pub record IsAuthorised (s : State) (bit : ℕ) : Type 0 where
+  pub pace : is_some s.pace ≡ true
+  pub terminal : is_some s.terminal ≡ true
+  pub chip : s.chip_proven ≡ true
+  pub holder : holder_gave s.pace bit ≡ true
+  pub chain : chain_gave s.certificates bit ≡ true
+
+-- all rules, in their order
+abbrev pub all_rules : List RuleRow
+all_rules = rules_before ++ answer_rules ++ commit_rules ++ proof_rules
+
+-- the rule says that: a PACE, terminal authentication, chip authentication, the right
+abbrev pub is_on_access : ℕ → Bool
+is_on_access number = number == 20 || number == 26 || number == 28 || number == 33
+
+-- the rule holds, or does not concern the kind
+abbrev pub is_kept : Situation → RuleRow → Bool
+is_kept s row = not (concerns row.kinds s.kind) || row.holds s
+
+-- all other rules that concern the kind hold
+abbrev pub others_hold : Situation → Bool
+others_hold s = list_all (λ row. is_on_access row.number || is_kept s row) all_rules

@@ -1,5 +1,6 @@
 //! Laws about every legal journal, and about forms.
-ghost use Rattle.std.specs.Prelude.{◌≡◌, ◌<◌, ◌≤◌, ◌↔◌, ℕ, List, ◌∷◌, ◌++◌, length, Some, false, true};
+ghost use Rattle.std.specs.Prelude.{◌≡◌, ◌<◌, ◌≤◌, ◌↔◌, ℕ, List, ◌∷◌, ◌++◌, length, Some, false, true, is_some};
+ghost use Rattle.eid_apdu.specs.Command.{PlainCommand};
 ghost use Rattle.eid_bits.specs.Date.{number_of};
 ghost use Rattle.eid_record.specs.Plain.{FullRecord, PlainEffect, Spend};
 ghost use Rattle.eid_password.specs.Passwords.{ALL_TRIES};
@@ -9,7 +10,8 @@ ghost use Rattle.eid_model.specs.Runs.{run, phase};
 ghost use Rattle.eid_model.specs.Sessions.{fresh};
 ghost use Rattle.eid_model.specs.Legal.{AreLegal};
 ghost use Rattle.eid_model.specs.Ledger.{ledger, kept, state_of};
-ghost use Rattle.eid_model.specs.Laws.{compares_pin, refused_pins, gives_back, goes_on_with_pin};
+ghost use Rattle.eid_model.specs.Laws.{compares_pin, refused_pins, gives_back, goes_on_with_pin, IsAuthorised, group_read, others_hold, sent_at};
+ghost use Rattle.eid_model.specs.Rules.{is_granted, reading};
 ghost use Rattle.eid_model.specs.Bodies.{NamesKey, authentication_data, data_in, holds_value, key_name_in};
 
 /// There is one journal for an opening record, a script and a source of the coprocessor's answers, as
@@ -21,10 +23,21 @@ pub fn law_one_journal()
 {}
 
 /// Power and want of power leave no session: after a power-on, a power-off and a lost moment there is no
-/// channel, no PACE and no run.
+/// channel, no PACE and no run, and no right is granted.
 pub fn law_fresh()
-    ensures { (opening : FullRecord) (m : PlainMoment) (before : List PlainMoment) → AreLegal opening (m ∷ before)
+    ensures session { (opening : FullRecord) (m : PlainMoment) (before : List PlainMoment) → AreLegal opening (m ∷ before)
         → leaves_no_session m ≡ true → state_of opening (m ∷ before) ≡ fresh }
+    ensures granted { (opening : FullRecord) (m : PlainMoment) (before : List PlainMoment) (bit : ℕ) → AreLegal opening (m ∷ before)
+        → leaves_no_session m ≡ true → is_granted (state_of opening (m ∷ before)) bit ≡ false }
+{}
+
+/// A data group is answered exactly where this session has completed PACE, terminal authentication and chip authentication, the
+/// right to read it stands in the template that the holder gave in that PACE and in those of the trust point, the document
+/// verifier and the terminal, and all other rules on a READ BINARY hold.
+pub fn law_access()
+    ensures { (opening : FullRecord) (m : PlainMoment) (before : List PlainMoment) (c : PlainCommand) (group : ℕ)
+        → AreLegal opening (m ∷ before) → m.plain ≡ Some c → is_some m.answer ≡ true → group_read (sent_at opening before c m) ≡ Some group
+        → m.rule ≡ 0 ↔ (IsAuthorised (sent_at opening before c m).state (reading group) × (others_hold (sent_at opening before c m) ≡ true)) }
 {}
 
 /// Each token of the PIN costs a try first: where a moment compared one, rightly or not, its Spend is the first effect that
