@@ -5,7 +5,8 @@ use Rattle.std.specs.Option.{option_or}
 use Rattle.eid_apdu.specs.Command.{PlainCommand}
 use Rattle.eid_record.specs.Plain.{FullRecord}
 use Rattle.eid_model.specs.declared.kind.Kind.TheVariants.{ReadBinary}
-use Rattle.eid_model.specs.Kinds.{is_by_short, file_of_short}
+use Rattle.eid_files.specs.Names.{file_of_short}
+use Rattle.eid_model.specs.Kinds.{is_by_short}
 use Rattle.eid_model.specs.Runs.{entered, claimed}
 use Rattle.eid_model.specs.Sessions.{State}
 use Rattle.eid_model.specs.Rules.{kind_rules, answer_rules, commit_rules, proof_rules, first_failed, file_meant, bytes_of_file, offset_meant}

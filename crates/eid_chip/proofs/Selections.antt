@@ -6,7 +6,8 @@ use Rattle.std.proofs.lemmas.Bool.Decides.{nat_tests}
 use Rattle.eid_apdu.specs.Command.{PlainCommand}
 use Rattle.eid_record.specs.Plain.{FullRecord, PlainRecord}
 use Rattle.eid_model.specs.declared.kind.Kind.TheVariants.{SelectApplication, SelectMasterFile, SelectFile}
-use Rattle.eid_model.specs.Kinds.{application_id, file_of_id}
+use Rattle.eid_files.specs.Names.{file_of_id}
+use Rattle.eid_model.specs.Kinds.{application_id}
 use Rattle.eid_model.specs.Runs.{entered, claimed}
 use Rattle.eid_model.specs.Sessions.{State, number_of_two}
 use Rattle.eid_model.specs.Rules.{kind_rules, answer_rules, commit_rules, proof_rules, first_failed}

@@ -7,7 +7,8 @@ use Rattle.eid_bits.specs.Date.{is_between}
 use Rattle.eid_record.specs.Plain.{FullRecord, Write}
 use Rattle.eid_record.specs.declared.fields.FileNo.{FileNo}
 use Rattle.eid_model.specs.declared.kind.Kind.TheVariants.{UpdateBinary}
-use Rattle.eid_model.specs.Kinds.{is_by_short, file_of_short}
+use Rattle.eid_files.specs.Names.{file_of_short}
+use Rattle.eid_model.specs.Kinds.{is_by_short}
 use Rattle.eid_model.specs.Runs.{entered, claimed}
 use Rattle.eid_model.specs.Sessions.{State}
 use Rattle.eid_model.specs.Rules.{answer_rules, bytes_of_file, file_meant, first_failed, group_of, kind_rules, offset_meant, to_write}

@@ -1,8 +1,10 @@
 //! The refusals, each with its rule and its status.
-ghost use Rattle.std.specs.Prelude.{◌≡◌, ◌+◌};
+ghost use Rattle.std.specs.Prelude.{◌≡◌, ◌==◌, ◌+◌, if◌then◌else◌};
+ghost use Rattle.eid_files.specs.Ranges.{end_rule};
 ghost use Rattle.eid_chip.specs.Steps.{refusal, start_refused};
 
 use eid_base::{Rule, Status};
+use eid_files::rules::BEYOND_END;
 use eid_password::rules;
 
 /// The rule that a command failed, and the status that says so.
@@ -177,11 +179,6 @@ pub const OFFSET: Refusal = Refusal {
     rule: Rule(38),
     status: Status(0x6B00),
 };
-/// What is to be written is longer than the file is from there on.
-pub const BEHIND_END: Refusal = Refusal {
-    rule: Rule(39),
-    status: Status(0x6A84),
-};
 /// The terminal's point is not the one that it announced.
 pub const OTHER_KEY: Refusal = Refusal {
     rule: Rule(41),
@@ -248,4 +245,16 @@ pub fn bad_certificate(rule: Rule) -> Refusal
         rule,
         status: Status(0x6300),
     }
+}
+
+/// What is to be written is refused by its range: its offset is behind the file's end, or it goes beyond it.
+pub fn bad_range(rule: Rule) -> Refusal
+    ensures { refusal result ≡ record { rule = rule.0; status = if rule.0 == end_rule then 0x6A84 else 0x6B00 } }
+{
+    let status = if rule == BEYOND_END {
+        Status(0x6A84)
+    } else {
+        Status(0x6B00)
+    };
+    Refusal { rule, status }
 }

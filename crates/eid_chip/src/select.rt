@@ -5,7 +5,8 @@ ghost use Rattle.eid_apdu.specs.Answer.{plain_reply};
 ghost use Rattle.eid_apdu.specs.Command.{plain_command};
 ghost use Rattle.eid_record.specs.Plain.{FullRecord};
 ghost use Rattle.eid_store.specs.Store as stored;
-ghost use Rattle.eid_model.specs.Kinds.{is_by_short, file_of_short};
+ghost use Rattle.eid_files.specs.Names.{file_of_short};
+ghost use Rattle.eid_model.specs.Kinds.{is_by_short};
 ghost use Rattle.eid_model.specs.Rules.{file_meant, offset_meant};
 ghost use Rattle.eid_chip.specs.Held.{held};
 ghost use Rattle.eid_sm.specs.Keys.{ChannelState};
@@ -14,13 +15,14 @@ ghost use Rattle.eid_chip.specs.Transitions.{without_run};
 ghost use Rattle.eid_chip.specs.Steps.{IsAnsweredByKind, known};
 
 use crate::ending::{answered, carried_out, refused};
-use crate::files::{self, file_of_id, put_answer};
+use crate::files::{file_length, put_answer};
 use crate::reaction::Reaction;
 use crate::refusal::{BODY_FORM, NO_CURRENT_FILE, NO_FILE, NOT_NAMED, OFFSET};
 use crate::rights::check_reading;
 use crate::session::{Memory, Session, idle};
 use eid_apdu::{Command, Reply};
 use eid_cells::Eeprom;
+use eid_files::{file_of_id, file_of_short, read_range};
 use eid_model::Kind;
 use eid_record::FileNo;
 use eid_store::Store;
@@ -101,7 +103,7 @@ pub fn meant_file(session: &Session, c: &Command<'_>) -> Option<FileNo>
     if c.p1 < 0x80 {
         session.memory.current
     } else {
-        files::file_of_short(c.p1 - 0x80)
+        file_of_short(c.p1 - 0x80)
     }
 }
 
@@ -160,13 +162,13 @@ pub fn read_binary<E: Eeprom>(
     if let Err(refusal) = check_reading(&session.memory, file) {
         return refused(refusal, session, reply);
     }
-    let Some(length) = files::file_length(store, cells, file) else {
+    let Some(length) = file_length(store, cells, file) else {
         return refused(NO_FILE, session, reply);
     };
     let offset = meant_offset(c);
-    if offset > length {
+    let Ok((count, status)) = read_range(length, offset, c.ne) else {
         return refused(OFFSET, session, reply);
-    }
-    put_answer(store, cells, file, offset, length - offset, c.ne, reply);
+    };
+    put_answer(store, cells, file, offset, count, status, reply);
     answered(after_read(session, c, file))
 }

@@ -12,26 +12,31 @@ ghost use Rattle.eid_chip.specs.Steps.{Performed};
 ghost use Rattle.eid_chip.specs.Worlds.{world};
 
 use crate::ending::{refused, uncommitted};
-use crate::files;
+use crate::files::file_length;
 use crate::pin::commit_one;
 use crate::reaction::Ending;
-use crate::refusal::{
-    BEHIND_END, BODY_FORM, NO_CURRENT_FILE, NO_FILE, NOT_NAMED, NOT_WRITABLE, OFFSET,
-};
+use crate::refusal::{BODY_FORM, NO_CURRENT_FILE, NO_FILE, NOT_NAMED, NOT_WRITABLE, bad_range};
 use crate::rights::check_writing;
 use crate::select::{meant_file, meant_offset};
 use crate::session::{Change, Session};
 use eid_apdu::{Command, Reply};
 use eid_cells::Eeprom;
+use eid_files::{data_group_of, write_range};
 use eid_model::Kind;
 use eid_record::{Effect, FileNo};
 use eid_store::Store;
+
+/// The first data group that may be written (BSI TR-03110-4); the last one is the last that there is.
+const FIRST_WRITABLE: u8 = 17;
 
 /// Whether the file is a data group that may be written: 17 to 21.
 fn is_writable(file: FileNo) -> bool
     ensures { result ≡ is_between 17 21 (group_of file.0) }
 {
-    18 <= file.0 && file.0 <= 22
+    match data_group_of(file) {
+        Some(group) => FIRST_WRITABLE <= group,
+        None => false,
+    }
 }
 
 /// What an UPDATE BINARY of a file changes in the session: a short identifier names it.
@@ -76,15 +81,12 @@ pub fn update_binary<E: Eeprom>(
     if let Err(refusal) = check_writing(&session.memory, file) {
         return uncommitted(refused(refusal, session, reply));
     }
-    let Some(length) = files::file_length(store, cells, file) else {
+    let Some(length) = file_length(store, cells, file) else {
         return uncommitted(refused(NO_FILE, session, reply));
     };
     let offset = meant_offset(c);
-    if offset > length {
-        return uncommitted(refused(OFFSET, session, reply));
-    }
-    if c.body.len() > usize::from(length - offset) {
-        return uncommitted(refused(BEHIND_END, session, reply));
+    if let Err(rule) = write_range(length, offset, c.body.len() as u16) {
+        return uncommitted(refused(bad_range(rule), session, reply));
     }
     let effect = Effect::Write {
         file,

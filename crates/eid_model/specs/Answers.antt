@@ -1,5 +1,5 @@
 -- How a command is answered (ISO/IEC 7816-4, BSI TR-03110-3).
-use Rattle.std.specs.Prelude.{ℕ, ◌==◌, ◌&&◌, ◌||◌, not, nat_lt, List, [], ◌∷◌, ◌++◌, length, take, drop, Option, Some, None, is_none, option_map, unwrap_or, if◌then◌else◌}
+use Rattle.std.specs.Prelude.{ℕ, List, [], ◌∷◌, ◌++◌, length, take, drop, Option, Some, None, is_none, option_map, unwrap_or, if◌then◌else◌}
 use Rattle.eid_apdu.specs.Command.{PlainCommand}
 use Rattle.eid_apdu.specs.Chaining.{OpenChain, continues, request}
 use Rattle.eid_apdu.specs.Answer.{PlainReply}
@@ -8,6 +8,7 @@ use Rattle.eid_copro.specs.declared.ask.Question.{Question}
 use Rattle.eid_copro.specs.declared.ask.Question.TheVariants as questions
 use Rattle.eid_copro.specs.declared.ask.Answer.{Answer}
 use Rattle.eid_copro.specs.declared.ask.Answer.TheVariants as answers
+use Rattle.eid_files.specs.Ranges.{read_status}
 use Rattle.eid_record.specs.Plain.{FullRecord, PlainRecord, PlainTrustPoint, PlainEffect}
 use Rattle.eid_password.specs.Passwords.{digits_of, select_status}
 use Rattle.eid_pace.specs.Check.{chip_token}
@@ -39,7 +40,7 @@ data_alone content = record { content = content; status = 0x9000 }
 abbrev pub read_reply : List ℕ → ℕ → PlainReply
 read_reply left ne = record {
   content = take ne left;
-  status = if nat_lt (length left) ne && not (ne == 256 || ne == 65536) then 0x6282 else 0x9000;
+  status = read_status (length left) ne;
 }
 
 -- what is told of the password that was chosen

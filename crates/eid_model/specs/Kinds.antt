@@ -1,6 +1,6 @@
 -- The command kinds: class, instruction and parameters of each (ISO/IEC 7816-4, BSI TR-03110-3), and
 -- the files that commands name (BSI TR-03110-4).
-use Rattle.std.specs.Prelude.{ℕ, ◌+◌, ◌*◌, ◌-◌, Bool, true, false, ◌==◌, ◌&&◌, nat_lt, nat_le, List, [], ◌∷◌, Option, Some, None, is_some, option_map, if◌then◌else◌, find}
+use Rattle.std.specs.Prelude.{ℕ, ◌+◌, ◌*◌, Bool, true, false, ◌==◌, ◌&&◌, nat_lt, nat_le, List, [], ◌∷◌, Option, Some, None, is_some, option_map, if◌then◌else◌, find}
 use Rattle.std.specs.List.{list_any}
 use Rattle.eid_apdu.specs.Command.{PlainCommand}
 use Rattle.eid_apdu.specs.Chaining.{is_fragment}
@@ -202,32 +202,6 @@ goes_on_in_run ActivatePin = false
 goes_on_in_run DeactivatePin = false
 goes_on_in_run NoProtocol = false
 goes_on_in_run NoStep = false
-
--- Files by number: EF.CardAccess is 0, EF.CardSecurity is 1, data group n is n + 1.
-abbrev pub card_access : ℕ
-card_access = 0
-
-abbrev pub card_security : ℕ
-card_security = 1
-
-abbrev pub data_group : ℕ → ℕ
-data_group n = n + 1
-
--- the file of a short identifier: 1C, 1D, and n for data group n from 1 to 21
-abbrev pub file_of_short : ℕ → Option ℕ
-file_of_short short =
-    if short == 0x1C then Some card_access
-    else if short == 0x1D then Some card_security
-    else if nat_le 1 short && nat_le short 21 then Some (data_group short)
-    else None
-
--- the file of an identifier: 011C, 011D, and 0100 + n for data group n from 1 to 21
-abbrev pub file_of_id : ℕ → Option ℕ
-file_of_id id =
-    if id == 0x011C then Some card_access
-    else if id == 0x011D then Some card_security
-    else if nat_le 0x0101 id && nat_le id 0x0115 then Some (data_group (id - 0x0100))
-    else None
 
 -- the identifier of the eID application
 abbrev pub application_id : List ℕ

@@ -26,7 +26,9 @@ use Rattle.eid_record.specs.declared.fields.Password.{Password}
 use Rattle.eid_password.specs.Passwords.{is_can, is_pin, is_puk, has_try, is_resumed, active_rule, try_rule, resumed_rule}
 use Rattle.eid_model.specs.declared.kind.Kind.{Kind}
 use Rattle.eid_model.specs.declared.kind.Kind.TheVariants.{SelectApplication, SelectMasterFile, SelectFile, ReadBinary, UpdateBinary, SelectPace, SelectPublicKey, VerifyCertificate, AnnounceTerminal, GetChallenge, ExternalAuthenticate, SelectChipAuthentication, EncryptedNonce, MapNonce, PerformKeyAgreement, MutualAuthentication, AuthenticateChip, ChangePin, UnblockPin, ChangeCan, ActivatePin, DeactivatePin, NoProtocol, NoStep}
-use Rattle.eid_model.specs.Kinds.{same_kind, kinds, has_instruction, has_parameters, is_by_short, file_of_short, file_of_id, card_access, card_security, application_id}
+use Rattle.eid_model.specs.Kinds.{same_kind, kinds, has_instruction, has_parameters, is_by_short, application_id}
+use Rattle.eid_files.specs.Names.{card_access, card_security, file_of_id, file_of_short}
+use Rattle.eid_files.specs.Ranges.{end_rule, offset_rule}
 use Rattle.eid_copro.specs.declared.ask.Answer.{Answer}
 use Rattle.eid_copro.specs.declared.ask.Answer.TheVariants as answers
 use Rattle.eid_copro.specs.Asking.{is_fault}
@@ -655,14 +657,14 @@ kind_rules =
     record { number = 37; status = fixed 0x6A82; kinds = ReadBinary ∷ UpdateBinary ∷ []; holds = λ s. is_some (bytes_of_file s.kept (file_meant s)) } ∷
     -- the offset is at most the file's length
     record {
-      number = 38;
+      number = offset_rule;
       status = fixed 0x6B00;
       kinds = ReadBinary ∷ UpdateBinary ∷ [];
       holds = λ s. nat_le (offset_meant s.command) (length (unwrap_or (bytes_of_file s.kept (file_meant s)) []));
     } ∷
     -- what is written ends at the file's end at the latest
     record {
-      number = 39;
+      number = end_rule;
       status = fixed 0x6A84;
       kinds = UpdateBinary ∷ [];
       holds = λ s. nat_le (offset_meant s.command + length s.command.body) (length (unwrap_or (bytes_of_file s.kept (file_meant s)) []));

@@ -19,7 +19,8 @@ use Rattle.eid_trust.specs.Trust.{is_link, is_verifier_role, is_terminal_role, n
 use Rattle.eid_sm.specs.Keys.{Keys, ChannelState}
 use Rattle.eid_model.specs.declared.kind.Kind.{Kind}
 use Rattle.eid_model.specs.declared.kind.Kind.TheVariants.{SelectApplication, SelectMasterFile, SelectFile, ReadBinary, UpdateBinary, SelectPace, SelectPublicKey, VerifyCertificate, AnnounceTerminal, GetChallenge, ExternalAuthenticate, SelectChipAuthentication, EncryptedNonce, MapNonce, PerformKeyAgreement, MutualAuthentication, AuthenticateChip, ChangePin, UnblockPin, ChangeCan, ActivatePin, DeactivatePin, NoProtocol, NoStep}
-use Rattle.eid_model.specs.Kinds.{is_by_short, file_of_short, file_of_id}
+use Rattle.eid_files.specs.Names.{file_of_id, file_of_short}
+use Rattle.eid_model.specs.Kinds.{is_by_short}
 use Rattle.eid_model.specs.Moments.{PlainMoment, ends_session}
 use Rattle.eid_model.specs.Chains.{chaining, request_of}
 use Rattle.eid_model.specs.Runs.{kind_done, run, next, Phase, Idle, Chose, SentNonce, HasBase, HasSecret, ChoseKey, phase, answers_of, Context, Authentication, NotBegun, Announced, Challenged, ChoseProtocol, authentication}

@@ -3,7 +3,7 @@ use Rattle.std.proofs.Common.{◌≡◌, ◌∙◌, sym, ap, true, Some, arith, 
 use Rattle.std.specs.Prelude.{option_map}
 use Rattle.std.proofs.lemmas.Bool.Decides.{nat_tests}
 use Rattle.eid_model.specs.declared.kind.Kind.TheVariants.{SelectFile}
-use Rattle.eid_model.specs.Kinds.{file_of_id}
+use Rattle.eid_files.specs.Names.{file_of_id}
 use Rattle.eid_apdu.specs.Command.{plain_command}
 use Rattle.eid_apdu.specs.Answer.{plain_reply}
 use Rattle.eid_model.specs.Sessions.{number_of_two}

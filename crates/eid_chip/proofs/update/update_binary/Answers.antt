@@ -1,5 +1,5 @@
 -- Bytes are refused by the first failed rule, or committed.
-use Rattle.std.proofs.Common.{◌≡◌, ◌∙◌, ap, sym, ◌+◌, true, false, ◌||◌, [], length, Option, Some, arith, refl}
+use Rattle.std.proofs.Common.{◌≡◌, ◌∙◌, ap, sym, ◌+◌, true, false, ◌==◌, ◌||◌, [], length, Option, Some, arith, inl, inr, refl}
 use Rattle.std.specs.Prelude.{is_some, nat_le}
 use Rattle.std.proofs.lemmas.Bool.Decides.{nat_tests}
 use Rattle.eid_apdu.specs.Command.{plain_command}
@@ -15,6 +15,9 @@ use Rattle.eid_chip.specs.Held.{held}
 use Rattle.eid_chip.specs.States.{state}
 use Rattle.eid_chip.specs.Steps.{refusal}
 use Rattle.eid_chip.proofs.Outcomes.{refused_unasked}
+use Rattle.eid_files.specs.Ranges.{refused_by}
+use Rattle.eid_chip.specs.Steps.{PlainRefusal}
+use Rattle.eid_chip.proofs.HeldFiles.{range_refusal, written_in, written_out}
 use Rattle.eid_chip.proofs.ReadSteps.{none_there}
 use Rattle.eid_chip.proofs.RightSteps.{passed_is, refused_is, writing_at, writing_fails, writing_rules}
 use Rattle.eid_chip.proofs.Selections.{filled, first_holds, second_holds, some_after, unfilled}
@@ -101,8 +104,8 @@ returns-in_default-file_length-clause-performed g c = λ copro.
     (λ channel. (update_absent kept (state c.args.session channel) command c.in-Some.file.0 (means channel) (none_there (bytes_of_file kept (Some c.in-Some.file.0)) c.in_default-file_length.ensures.length), refl))
     (ap (λ (x : Rule). x.0) r.ensures.rule) r.ensures.reply r.ensures.left
 
-pub returns-then-offset-length-clause-performed : goal.returns-then-offset-length-clause-performed
-returns-then-offset-length-clause-performed g c = λ copro.
+pub returns-in-Err-write_range-clause-performed : goal.returns-in-Err-write_range-clause-performed
+returns-in-Err-write_range-clause-performed g c = λ copro.
     let command = plain_command c.args.c.now in
     let kept = held (g.E.Eeprom.cells c.args.cells.now) in
     let some = filled (length c.args.c.now.body.now) c.if-is_empty.ensures in
@@ -116,32 +119,17 @@ returns-then-offset-length-clause-performed g c = λ copro.
       served = passed_is c.check_writing.result c.in_default-check_writing.field-0 (writing_refused (state c.args.session channel) c.in-Some.file.0)
           (c.check_writing.ensures ∙ writing_at c.args.session channel c.in-Some.file.0) c.in_default-check_writing.is;
     } in
-    let behind : nat_le (offset_meant command) c.in-Some-file_length.length ≡ false = grind (arith, nat_tests, c.meant_offset-offset.ensures, c.if-offset-length.true) in
-    let r = c.refused-then-offset-length in
-    refused_unasked UpdateBinary c.args.session command (record { rule = 38; status = 0x6B00 }) _ r.result _ copro _ _ _ c.requires.fits c.uncommitted-then-offset-length.ensures
-    (λ channel. (update_behind kept (state c.args.session channel) command c.in-Some.file.0 c.in-Some-file_length.length (means channel) c.in-Some-file_length.ensures.length behind, refl))
-    (ap (λ (x : Rule). x.0) r.ensures.rule) r.ensures.reply r.ensures.left
-
-pub returns-then-c-from-clause-performed : goal.returns-then-c-from-clause-performed
-returns-then-c-from-clause-performed g c = λ copro.
-    let command = plain_command c.args.c.now in
-    let kept = held (g.E.Eeprom.cells c.args.cells.now) in
-    let some = filled (length c.args.c.now.body.now) c.if-is_empty.ensures in
-    let named : (is_by_short command || is_some c.args.session.memory.current) ≡ true =
-    elim c.else-c-lt128.branch [ else-c-lt128-via-then-c-lt128+else-is_none w ↦ second_holds (is_by_short command) _ w.if-is_none.ensures | else-c-lt128-via-else-c-lt128 w ↦ let short : true ≡ nat_le 0x80 c.args.c.now.p1 = grind (arith, nat_tests) in first_holds _ _ short ] in
-    let means : (channel : Option ChannelState) → MeansGroup kept (state c.args.session channel) command c.in-Some.file.0 = λ channel. record {
-      some = some;
-      current = current_at (is_by_short command) c.args.session.memory.current named;
-      meant = c.in-Some.ensures.file UpdateBinary kept channel;
-      writable = sym c.if-not-is_writable.ensures;
-      served = passed_is c.check_writing.result c.in_default-check_writing.field-0 (writing_refused (state c.args.session channel) c.in-Some.file.0)
-          (c.check_writing.ensures ∙ writing_at c.args.session channel c.in-Some.file.0) c.in_default-check_writing.is;
-    } in
-    let offset : nat_le (offset_meant command) c.in-Some-file_length.length ≡ true = grind (arith, nat_tests, c.meant_offset-offset.ensures, c.if-offset-length.false) in
-    let over : nat_le (offset_meant command + length command.body) c.in-Some-file_length.length ≡ false = grind (arith, nat_tests, c.meant_offset-offset.ensures, c.if-offset-length.false, c.from.ensures, c.if-c-from.true) in
-    let r = c.refused-then-c-from in
-    refused_unasked UpdateBinary c.args.session command (record { rule = 39; status = 0x6A84 }) _ r.result _ copro _ _ _ c.requires.fits c.uncommitted-then-c-from.ensures
-    (λ channel. (update_over kept (state c.args.session channel) command c.in-Some.file.0 c.in-Some-file_length.length (means channel) c.in-Some-file_length.ensures.length offset over, refl))
+    let size = c.in-Some-file_length.length in
+    let offset = c.meant_offset-offset.result in
+    let rule = c.in-Err-write_range.rule.0 in
+    let refused = refusal c.bad_range.result in
+    let is = range_refusal refused rule c.bad_range.ensures in
+    let r = c.refused-in-Err-write_range in
+    refused_unasked UpdateBinary c.args.session command refused _ r.result _ copro _ _ _ c.requires.fits c.uncommitted-in-Err-write_range.ensures
+    (λ channel. elim (written_out size offset (length command.body) rule (sym (ap refused_by c.in-Err-write_range.is) ∙ c.write_range.ensures)) [
+      | inl out ↦ (update_behind kept (state c.args.session channel) command c.in-Some.file.0 size (means channel) c.in-Some-file_length.ensures.length (rw (← c.meant_offset-offset.ensures) out.behind) ∙ ap Some (sym (is.0 out.rule_is)), ap (λ (p : PlainRefusal). p.rule == 0) (is.0 out.rule_is))
+      | inr out ↦ (update_over kept (state c.args.session channel) command c.in-Some.file.0 size (means channel) c.in-Some-file_length.ensures.length (rw (← c.meant_offset-offset.ensures) out.inside) (rw (← c.meant_offset-offset.ensures) out.beyond) ∙ ap Some (sym (is.1 out.rule_is)), ap (λ (p : PlainRefusal). p.rule == 0) (is.1 out.rule_is))
+    ])
     (ap (λ (x : Rule). x.0) r.ensures.rule) r.ensures.reply r.ensures.left
 
 pub returns-clause-performed : goal.returns-clause-performed
@@ -159,8 +147,10 @@ returns-clause-performed g c = λ copro.
       served = passed_is c.check_writing.result c.in_default-check_writing.field-0 (writing_refused (state c.args.session channel) c.in-Some.file.0)
           (c.check_writing.ensures ∙ writing_at c.args.session channel c.in-Some.file.0) c.in_default-check_writing.is;
     } in
-    let offset : nat_le (offset_meant command) c.in-Some-file_length.length ≡ true = grind (arith, nat_tests, c.meant_offset-offset.ensures, c.if-offset-length.false) in
-    let fits : nat_le (offset_meant command + length command.body) c.in-Some-file_length.length ≡ true = grind (arith, nat_tests, c.meant_offset-offset.ensures, c.if-offset-length.false, c.from.ensures, c.if-c-from.false) in
+    let size = c.in-Some-file_length.length in
+    let inside = written_in size c.meant_offset-offset.result (length command.body) (sym (ap refused_by c.in_default-write_range.is) ∙ c.write_range.ensures) in
+    let offset : nat_le (offset_meant command) size ≡ true = rw (← c.meant_offset-offset.ensures) inside.0 in
+    let fits : nat_le (offset_meant command + length command.body) size ≡ true = rw (← c.meant_offset-offset.ensures) inside.1 in
     record {
       asks = [];
       were_asked = not_asked copro;
