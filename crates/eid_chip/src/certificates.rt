@@ -59,8 +59,8 @@ fn key_name(body: &[u8]) -> Option<&[u8]>
 }
 
 /// MSE:Set DST: a run begins with the name of the public key that is to verify a certificate. Rule 10 is a body of another
-/// form, rule 20 that there is no PACE, rule 21 that it had no template, rule 22 that a terminal has authenticated itself, rule 23 that neither a trust point nor the document
-/// verifier accepted last has this name.
+/// form, rule 20 that there is no PACE, rule 21 that it had no template, rule 22 that a terminal has authenticated itself,
+/// rule 23 that neither a trust point nor the document verifier accepted last has this name.
 pub fn select_public_key(
     session: Session,
     kept: &Record,

@@ -51,8 +51,9 @@ fn naming(c: &Command<'_>, file: FileNo) -> Change
 }
 
 /// UPDATE BINARY. Rule 10 is an empty body, rule 12 that there is no current file, rule 13 an unknown identifier, rule 14 a
-/// file that may not be written, the rules 20, 26, 28, 31, 32 and 33 are those of `check_writing`, rule 37 is that the file is absent, rule 38 an offset behind its end, rule 39 more bytes than there are from there on,
-/// rule 54 that there is no commit number left.
+/// file that may not be written, the rules 20, 26, 28, 31, 32 and 33 are those of `check_writing`, rule 37 is that the file
+/// is absent, rule 38 an offset behind its end, rule 39 more bytes than there are from there on, rule 54 that there is no
+/// commit number left.
 pub fn update_binary<E: Eeprom>(
     session: Session,
     store: &mut Store,
