@@ -8,8 +8,8 @@ mod text;
 
 pub use kind::Kind;
 pub use law::{
-    law_authentication_data, law_fresh, law_kept, law_one_journal, law_spend, law_tries,
-    law_try_left,
+    law_access, law_authentication_data, law_date, law_fresh, law_kept, law_key_name,
+    law_one_journal, law_spend, law_tries, law_try_left,
 };
 pub use moment::{Input, InputRef, MAX_BODY, Moment, MomentRef, Plain};
 pub use text::{Text, trace_text};
