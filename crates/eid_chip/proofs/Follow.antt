@@ -18,7 +18,7 @@ use Rattle.eid_store.specs.Stands.{stands}
 use Rattle.eid_pace.specs.States.{PlainDone}
 use Rattle.eid_sm.specs.Keys.{Keys, ChannelState, next_counter}
 use Rattle.eid_model.specs.declared.kind.Kind.{Kind}
-use Rattle.eid_model.specs.declared.kind.Kind.TheVariants.{SelectApplication, SelectMasterFile, SelectFile, ReadBinary, UpdateBinary, SelectPace, SelectPublicKey, VerifyCertificate, AnnounceTerminal, GetChallenge, ExternalAuthenticate, SelectChipAuthentication, EncryptedNonce, MapNonce, PerformKeyAgreement, MutualAuthentication, AuthenticateChip, ChangePin, UnblockPin, ChangeCan, ActivatePin, DeactivatePin, NoProtocol, NoStep}
+use Rattle.eid_model.specs.declared.kind.Kind.TheVariants.{SelectApplication, SelectMasterFile, SelectFile, ReadBinary, UpdateBinary, SelectPace, SelectPublicKey, VerifyCertificate, AnnounceTerminal, GetChallenge, ExternalAuthenticate, SelectChipAuthentication, EncryptedNonce, MapNonce, PerformKeyAgreement, MutualAuthentication, AuthenticateChip, ChangePin, UnblockPin, ChangeCan, ActivatePin, DeactivatePin, VerifyAuxiliary, NoProtocol, NoStep}
 use Rattle.eid_model.specs.Kinds.{kind_in_table, step_after}
 use Rattle.eid_model.specs.Chains.{chain_of, chaining, more_pieces, pieces, request_of}
 use Rattle.eid_model.specs.Moments.{PlainMoment, on, live, ends_session_by}
@@ -92,6 +92,7 @@ run_next UnblockPin c answers steps = refl
 run_next ChangeCan c answers steps = refl
 run_next ActivatePin c answers steps = refl
 run_next DeactivatePin c answers steps = refl
+run_next VerifyAuxiliary c answers steps = refl
 run_next NoStep c answers steps = refl
 
 run_phase : (kind : Kind) (c : PlainCommand) (answers : List Answer) (steps : List Step) → phase (continued (Some kind) (Some c) answers steps) ≡ entered kind c answers (phase steps)
@@ -119,6 +120,7 @@ run_phase UnblockPin c answers steps = refl
 run_phase ChangeCan c answers steps = refl
 run_phase ActivatePin c answers steps = refl
 run_phase DeactivatePin c answers steps = refl
+run_phase VerifyAuxiliary c answers steps = refl
 run_phase NoStep c answers steps = refl
 
 -- ---- the certificates
@@ -164,6 +166,7 @@ run_claim UnblockPin kept c answers last before terminal p steps = refl
 run_claim ChangeCan kept c answers last before terminal p steps = refl
 run_claim ActivatePin kept c answers last before terminal p steps = refl
 run_claim DeactivatePin kept c answers last before terminal p steps = refl
+run_claim VerifyAuxiliary kept c answers last before terminal p steps = refl
 run_claim NoProtocol kept c answers last before terminal p steps = refl
 run_claim NoStep kept c answers last before terminal p steps = refl
 

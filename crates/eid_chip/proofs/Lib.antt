@@ -10,6 +10,7 @@ pub mod Selections
 pub mod RightSteps
 pub mod ReadSteps
 pub mod UpdateSteps
+pub mod VerifySteps
 pub mod Refusals
 pub mod Commits
 pub mod PinSteps

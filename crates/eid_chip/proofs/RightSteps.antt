@@ -1,17 +1,22 @@
 -- What refuses a terminal, by the rules that concern the kinds.
-use Rattle.std.proofs.Common.{◌≡◌, ◌∙◌, ap, ℕ, Bool, true, false, not, ◌==◌, ◌||◌, [], length, Option, None, Some, Result, Ok, Err, refl, sym, subst}
+use Rattle.std.proofs.Common.{◌≡◌, ◌∙◌, ap, ℕ, Bool, true, false, not, ◌==◌, ◌||◌, List, [], length, Option, None, Some, Result, Ok, Err, refl, sym, subst}
 use Rattle.std.specs.Prelude.{IfSome, is_some, nat_le, nat_lt, if◌then◌else◌}
 use Rattle.std.specs.Option.{option_or}
+use Rattle.eid_aux.specs.declared.compared.Compared.{Compared}
+use Rattle.eid_aux.specs.declared.compared.Compared.TheVariants.{Yes, No, NoReference}
+use Rattle.eid_model.specs.Auxiliary.{comparison_in, compared_to}
+use Rattle.eid_model.specs.declared.comparison.Comparison.{Comparison}
+use Rattle.eid_model.specs.declared.comparison.Comparison.TheVariants.{Age, Validity, Community}
 use Rattle.eid_apdu.specs.Command.{PlainCommand}
 use Rattle.eid_bits.specs.Date.{is_between}
 use Rattle.eid_record.specs.Plain.{FullRecord}
 use Rattle.eid_password.specs.Passwords.{is_pin, is_puk}
 use Rattle.eid_sm.specs.Keys.{ChannelState}
-use Rattle.eid_model.specs.declared.kind.Kind.TheVariants.{ReadBinary, UpdateBinary, ChangeCan}
+use Rattle.eid_model.specs.declared.kind.Kind.TheVariants.{ReadBinary, UpdateBinary, ChangeCan, VerifyAuxiliary}
 use Rattle.eid_model.specs.Kinds.{is_by_short}
 use Rattle.eid_model.specs.Sessions.{State}
-use Rattle.eid_model.specs.Rules.{PIN_MANAGEMENT, file_meant, group_of, is_by_holder, is_card_access, is_formed, is_granted, kind_rules, manages_pin, reading, was_with, writing}
-use Rattle.eid_chip.specs.Granting.{activation, change_refused, file_refused, manager_refused, of_memory, reading_refused, refusal_in, refusal_of, terminal_refused, unblocking_refused, writing_refused}
+use Rattle.eid_model.specs.Rules.{AGE_VERIFICATION, COMMUNITY_VERIFICATION, PIN_MANAGEMENT, file_meant, group_of, is_by_holder, is_card_access, is_formed, is_granted, kind_rules, manages_pin, may_compare, reading, was_with, writing}
+use Rattle.eid_chip.specs.Granting.{activation, change_refused, comparing_refused, file_refused, manager_refused, of_memory, reading_refused, refusal_in, refusal_of, sent_refused, terminal_refused, unblocking_refused, verdict_refused, writing_refused}
 use Rattle.eid_chip.specs.States.{state}
 use Rattle.eid_chip.specs.Steps.{PlainRefusal, known, refusal, refusal_by}
 use Rattle.eid_chip.specs.declared.refusal.Refusal.{Refusal}
@@ -119,6 +124,51 @@ activation_fails active kept old c refused empty e = by active (is_some old.pace
   by false true true true false r ip it ic ih ir = rw (empty, ip, it, ih, ic) (rw (ip, it, ih, ic) at e)
   by false true true true true false ip it ic ih ir = rw (empty, ip, it, ih, ir, ic) (rw (ip, it, ih, ir, ic) at e)
   by active true true true true true ip it ic ih ir = absurd (let none = rw (ip, it, ih, ir, ic) at e in cc)
+
+-- ---- to compare
+
+pub comparing_fails : (kept : FullRecord) (old : State) (c : PlainCommand) (comparison : Comparison) (refused : PlainRefusal) → comparison_in c.body ≡ Some comparison → comparing_refused old comparison ≡ Some refused
+    → refusal_by kind_rules (known VerifyAuxiliary kept old c []) ≡ Some refused
+comparing_fails kept old c comparison refused formed e =
+    by (is_some old.pace) (is_some old.terminal) old.chip_proven (is_by_holder old) old.selected (may_compare old (Some comparison)) refl refl refl refl refl refl where
+      by : (pace terminal chip holder selected granted : Bool) → is_some old.pace ≡ pace → is_some old.terminal ≡ terminal → old.chip_proven ≡ chip → is_by_holder old ≡ holder → old.selected ≡ selected
+          → may_compare old (Some comparison) ≡ granted → refusal_by kind_rules (known VerifyAuxiliary kept old c []) ≡ Some refused
+      by false t ch h s r ip it ic ih is ir = rw (formed, ip) (rw ip at e)
+      by true false ch h s r ip it ic ih is ir = rw (formed, ip, it) (rw (ip, it) at e)
+      by true true false h s r ip it ic ih is ir = rw (formed, ip, it, ic) (rw (ip, it, ic) at e)
+      by true true true false s r ip it ic ih is ir = rw (formed, ip, it, ih, ic) (rw (ip, it, ih, ic) at e)
+      by true true true true false r ip it ic ih is ir = rw (formed, ip, it, ih, is, ic) (rw (ip, it, ih, is, ic) at e)
+      by true true true true true false ip it ic ih is ir = rw (formed, ip, it, ih, ir, is, ic) (rw (ip, it, ih, ir, is, ic) at e)
+      by true true true true true true ip it ic ih is ir = absurd (let none = rw (ip, it, ih, ir, is, ic) at e in cc)
+
+-- what a comparison needs before the data are looked at
+pub record MayCompare (s : State) (comparison : Comparison) : Type 0 where
+  pub pace : is_some s.pace ≡ true
+  pub terminal : is_some s.terminal ≡ true
+  pub chip : s.chip_proven ≡ true
+  pub holder : is_by_holder s ≡ true
+  pub selected : s.selected ≡ true
+  pub granted : may_compare s (Some comparison) ≡ true
+
+pub comparing_served : (s : State) (comparison : Comparison) → comparing_refused s comparison ≡ None → MayCompare s comparison
+comparing_served s comparison e = by (is_some s.pace) (is_some s.terminal) s.chip_proven (is_by_holder s) s.selected (may_compare s (Some comparison)) refl refl refl refl refl refl where
+  by : (pace terminal chip holder selected granted : Bool) → is_some s.pace ≡ pace → is_some s.terminal ≡ terminal → s.chip_proven ≡ chip → is_by_holder s ≡ holder → s.selected ≡ selected
+      → may_compare s (Some comparison) ≡ granted → MayCompare s comparison
+  by false t ch h sel r ip it ic ih is ir = absurd (let none = rw ip at e in cc)
+  by true false ch h sel r ip it ic ih is ir = absurd (let none = rw (ip, it) at e in cc)
+  by true true false h sel r ip it ic ih is ir = absurd (let none = rw (ip, it, ic) at e in cc)
+  by true true true false sel r ip it ic ih is ir = absurd (let none = rw (ip, it, ih, ic) at e in cc)
+  by true true true true false r ip it ic ih is ir = absurd (let none = rw (ip, it, ih, is, ic) at e in cc)
+  by true true true true true false ip it ic ih is ir = absurd (let none = rw (ip, it, ih, ir, is, ic) at e in cc)
+  by true true true true true true ip it ic ih is ir = record { pace = ip; terminal = it; chip = ic; holder = ih; selected = is; granted = ir }
+
+may_compare_at : (session : Session) (channel : Option ChannelState) (comparison : Comparison) → may_compare (of_memory session.memory) (Some comparison) ≡ may_compare (state session channel) (Some comparison)
+may_compare_at session channel Age = granted_at session channel AGE_VERIFICATION
+may_compare_at session channel Validity = refl
+may_compare_at session channel Community = granted_at session channel COMMUNITY_VERIFICATION
+
+pub comparing_at : (session : Session) (channel : Option ChannelState) (comparison : Comparison) → comparing_refused (of_memory session.memory) comparison ≡ comparing_refused (state session channel) comparison
+comparing_at session channel comparison = rw (holder_at session channel, may_compare_at session channel comparison) refl
 
 -- ---- what serves
 
@@ -228,6 +278,20 @@ pub unblocking_rules : (s : State) (left : ℕ) → AreRules (unblocking_refused
 unblocking_rules s left =
     if_rules (not (is_some s.pace)) 20 0x6982 _ refl
     (if_rules (not (was_with is_puk s.pace || manages_pin s)) 29 0x6982 _ refl (if_rules (not (not (was_with is_puk s.pace) || nat_le 1 left)) 30 0x6983 None refl tt))
+
+pub comparing_rules : (s : State) (comparison : Comparison) → AreRules (comparing_refused s comparison)
+comparing_rules s comparison =
+    if_rules (not (is_some s.pace)) 20 0x6982 _ refl
+    (or_rules (terminal_refused s) _ (terminal_rules s) (if_rules (not s.selected) 32 0x6985 _ refl (if_rules (not (may_compare s (Some comparison))) 33 0x6982 None refl tt)))
+
+pub verdict_rules : (compared : Compared) → AreRules (verdict_refused compared)
+verdict_rules Yes = tt
+verdict_rules No = refl
+verdict_rules NoReference = refl
+
+pub sent_rules : (comparison : Comparison) (stored sent : Option (List ℕ)) → AreRules (sent_refused comparison stored sent)
+sent_rules comparison stored None = refl
+sent_rules comparison stored (Some sent) = verdict_rules (compared_to comparison stored sent)
 
 -- the refusal of a result, of the rules that it goes by
 pub refused_is : (result : Result Unit Refusal) (r : Refusal) (o : Option PlainRefusal) → refusal_in result ≡ o → result ≡ Err r → (o ≡ Some (refusal r)) × (AreRules o → (r.rule.0 == 0) ≡ false)

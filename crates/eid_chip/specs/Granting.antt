@@ -1,14 +1,18 @@
 -- Inside: cited by private contracts alone.
 -- What refuses a terminal (BSI TR-03110-4), by the rules on it in their order.
-use Rattle.std.specs.Prelude.{ℕ, Bool, true, false, not, ◌&&◌, ◌||◌, nat_le, Option, Some, None, Result, Ok, Err, is_some, option_map, if◌then◌else◌}
+use Rattle.std.specs.Prelude.{ℕ, Bool, true, false, not, List, ◌&&◌, ◌||◌, nat_le, Option, Some, None, Result, Ok, Err, is_some, option_map, if◌then◌else◌}
 use Rattle.std.specs.Option.{option_or}
 use Rattle.eid_bits.specs.Rights.{has_right, is_right}
 use Rattle.eid_bits.specs.declared.rights.Bits.{Bits}
-use Rattle.eid_cvc.specs.Chains.{chain_view}
+use Rattle.eid_aux.specs.declared.compared.Compared.{Compared}
+use Rattle.eid_aux.specs.declared.compared.Compared.TheVariants.{Yes, No, NoReference}
+use Rattle.eid_cvc.specs.Chains.{chain_view, known_view}
+use Rattle.eid_model.specs.Auxiliary.{compared_to, sent_by}
+use Rattle.eid_model.specs.declared.comparison.Comparison.{Comparison}
 use Rattle.eid_model.specs.declared.kind.Kind.{Kind}
 use Rattle.eid_model.specs.declared.kind.Kind.TheVariants.{ActivatePin, DeactivatePin}
 use Rattle.eid_password.specs.Passwords.{is_pin, is_puk}
-use Rattle.eid_model.specs.Rules.{PIN_MANAGEMENT, chain_gave, group_of, holder_gave, is_by_holder, is_card_access, is_data_group, is_granted, manages_pin, reading, was_with, writing}
+use Rattle.eid_model.specs.Rules.{PIN_MANAGEMENT, chain_gave, group_of, holder_gave, is_by_holder, is_card_access, is_data_group, is_granted, manages_pin, may_compare, reading, was_with, writing}
 use Rattle.eid_model.specs.Sessions.{State}
 use Rattle.eid_chip.specs.declared.refusal.Refusal.{Refusal}
 use Rattle.eid_chip.specs.declared.session.Memory.{Memory}
@@ -60,6 +64,28 @@ reading_refused s file =
 -- to write one: PACE, and those rules
 abbrev pub writing_refused : State → ℕ → Option PlainRefusal
 writing_refused s file = if not (is_some s.pace) then refusal_of 20 0x6982 else file_refused s (writing (group_of file))
+
+-- to compare: PACE, what refuses a terminal, that the application is selected, and the right
+abbrev pub comparing_refused : State → Comparison → Option PlainRefusal
+comparing_refused s comparison =
+    if not (is_some s.pace) then refusal_of 20 0x6982
+    else option_or (terminal_refused s)
+    (if not s.selected then refusal_of 32 0x6985 else if not (may_compare s (Some comparison)) then refusal_of 33 0x6982 else None)
+
+-- by what was compared: no reference, or no
+abbrev pub verdict_refused : Compared → Option PlainRefusal
+verdict_refused Yes = None
+verdict_refused No = refusal_of 36 0x6300
+verdict_refused NoReference = refusal_of 35 0x6A88
+
+-- by what was sent, and by what is stored
+abbrev pub sent_refused : Comparison → Option (List ℕ) → Option (List ℕ) → Option PlainRefusal
+sent_refused comparison stored None = refusal_of 34 0x6A88
+sent_refused comparison stored (Some sent) = verdict_refused (compared_to comparison stored sent)
+
+-- what was sent of a session's terminal
+abbrev pub sent_to : Memory → Comparison → Option (List ℕ)
+sent_to m comparison = sent_by (option_map known_view m.terminal) comparison
 
 -- to manage PIN and CAN: PACE, what refuses a terminal, and the right
 abbrev pub manager_refused : State → Option PlainRefusal

@@ -46,6 +46,7 @@ use crate::select::{read_binary, select_application, select_file, select_master_
 use crate::session::{Run, Session};
 use crate::terminal::{announce_terminal, external_authenticate, get_challenge};
 use crate::update::update_binary;
+use crate::verify::verify_auxiliary;
 use arrayvec::ArrayVec;
 use eid_apdu::{Chain, Command, Fed, MAX_REQUEST, Reply, read_command, write_reply};
 use eid_base::Rule;
@@ -126,6 +127,7 @@ fn perform<E: Eeprom, C: Coprocessor>(
         Kind::ChangeCan => change_can(session, store, cells, c, reply),
         Kind::ActivatePin => set_active(true, session, store, cells, c, reply),
         Kind::DeactivatePin => set_active(false, session, store, cells, c, reply),
+        Kind::VerifyAuxiliary => uncommitted(verify_auxiliary(session, store, cells, c, reply)),
         Kind::NoProtocol => uncommitted(refused(BODY_FORM, session, reply)),
         Kind::NoStep => uncommitted(refused(NO_STEP, session, reply)),
     }

@@ -1,5 +1,5 @@
 //! The bytes of files (BSI TR-03110-3 and -4).
-ghost use Rattle.std.specs.Prelude.{◌≡◌, ◌+◌, ◌≤◌, [], None, option_map, unwrap_or, length, IfSome, IsSomeAnd, slice_index_or, slice_range};
+ghost use Rattle.std.specs.Prelude.{◌≡◌, ◌+◌, ◌≤◌, [], None, Some, option_map, unwrap_or, length, IfSome, IsSomeAnd, slice_index_or, slice_range, if◌then◌else◌};
 ghost use Rattle.arrayvec.specs.ArrayVec.{array_vec_len};
 ghost use Rattle.eid_record.specs.View.{record_view};
 ghost use Rattle.eid_store.specs.Store as stored;
@@ -108,4 +108,21 @@ pub fn put_answer<E: Eeprom>(
         &mut reply.content,
     );
     reply.status = status;
+}
+
+/// Makes the whole file the content of a reply, where it is there.
+pub fn put_file<E: Eeprom>(
+    store: &Store,
+    cells: &E,
+    file: FileNo,
+    content: &mut ArrayVec<u8, MAX_CONTENT>,
+) -> bool
+    requires fits { stored.Fits store.now (E.device cells.now) (E.cells cells.now) }
+    ensures { held_file (E.cells cells.now) file.0 ≡ (if result then Some content.new.items else None) }
+{
+    let Some(length) = file_length(store, cells, file) else {
+        return false;
+    };
+    put_content(store, cells, file, 0, usize::from(length), content);
+    true
 }

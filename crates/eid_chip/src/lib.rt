@@ -19,6 +19,7 @@ mod select;
 mod session;
 mod terminal;
 mod update;
+mod verify;
 
 pub use chip::Chip;
 pub use exchange::{Exchange, Handled, HandledIn};

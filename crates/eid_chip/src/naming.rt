@@ -355,6 +355,19 @@ fn plain_kind(c: &Command<'_>, run: &Run) -> Result<Named, Refusal>
     }
 }
 
+/// The kind of a command of class 80: VERIFY of auxiliary data, by its parameters.
+fn proprietary(c: &Command<'_>, run: &Run) -> Result<Named, Refusal>
+    requires { c.now.cla ≡ 0x80 }
+    ensures named { IsNamed run.now (plain_command c.now) result }
+{
+    let _ = run;
+    match c.ins {
+        0x20 if c.p1 == 0x80 && c.p2 == 0 => Ok(Named::Ends(Last::Of(Kind::VerifyAuxiliary))),
+        0x20 => Err(PARAMETERS),
+        _ => Err(INSTRUCTION),
+    }
+}
+
 /// What a command is where the run stands there, or the first refusal of its class, instruction or parameters.
 pub fn name_command(c: &Command<'_>, run: &Run) -> Result<Named, Refusal>
     ensures named { IsNamed run.now (plain_command c.now) result }
@@ -362,7 +375,7 @@ pub fn name_command(c: &Command<'_>, run: &Run) -> Result<Named, Refusal>
     match c.cla {
         0x00 => plain_kind(c, run),
         0x10 => chained(c, run),
-        0x80 => Err(INSTRUCTION),
+        0x80 => proprietary(c, run),
         _ => Err(CLASS),
     }
 }

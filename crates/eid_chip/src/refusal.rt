@@ -169,6 +169,21 @@ pub const NO_RIGHT: Refusal = Refusal {
     rule: Rule(33),
     status: Status(0x6982),
 };
+/// The terminal sent nothing to compare.
+pub const NOTHING_SENT: Refusal = Refusal {
+    rule: Rule(34),
+    status: Status(0x6A88),
+};
+/// The data group to compare with is absent, or holds nothing to compare.
+pub const NO_REFERENCE: Refusal = Refusal {
+    rule: Rule(35),
+    status: Status(0x6A88),
+};
+/// The comparison does not hold.
+pub const NOT_COMPARED: Refusal = Refusal {
+    rule: Rule(36),
+    status: Status(0x6300),
+};
 /// The file is absent.
 pub const NO_FILE: Refusal = Refusal {
     rule: Rule(37),

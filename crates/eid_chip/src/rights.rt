@@ -1,8 +1,8 @@
 //! What a terminal is granted (BSI TR-03110-4), and what the holder's password gives.
-ghost use Rattle.std.specs.Prelude.{◌≡◌, ◌≤◌, ℕ, option_map};
+ghost use Rattle.std.specs.Prelude.{◌≡◌, ◌≤◌, ℕ, Some, option_map};
 ghost use Rattle.eid_password.specs.Passwords.{is_pin, is_puk};
-ghost use Rattle.eid_model.specs.Rules.{group_of, is_by_holder, is_granted, manages_pin, reading, was_with, writing};
-ghost use Rattle.eid_chip.specs.Granting.{change_refused, file_refused, has_among, is_given, manager_refused, of_memory, reading_refused, refusal_in, terminal_refused, unblocking_refused, writing_refused};
+ghost use Rattle.eid_model.specs.Rules.{group_of, is_by_holder, is_granted, manages_pin, may_compare, reading, was_with, writing};
+ghost use Rattle.eid_chip.specs.Granting.{change_refused, comparing_refused, file_refused, has_among, is_given, manager_refused, of_memory, reading_refused, refusal_in, terminal_refused, unblocking_refused, writing_refused};
 ghost use Rattle.eid_chip.specs.States as states;
 
 use crate::files::{CARD_ACCESS, CARD_SECURITY};
@@ -12,10 +12,17 @@ use crate::refusal::{
 };
 use crate::session::Memory;
 use eid_bits::{Bits, meet};
+use eid_model::Comparison;
 use eid_record::{FileNo, Password};
 
 /// The right to serve with a PACE by the CAN.
 const CAN_ALLOWED: u32 = 4;
+
+/// The right to have the age compared.
+const AGE_VERIFICATION: u32 = 0;
+
+/// The right to have the community compared.
+const COMMUNITY_VERIFICATION: u32 = 1;
 
 /// The right to manage PIN and CAN.
 const PIN_MANAGEMENT: u32 = 5;
@@ -151,6 +158,35 @@ pub fn check_writing(memory: &Memory, file: FileNo) -> Result<(), Refusal>
         return Err(NO_PACE);
     }
     check_file(memory, writing(file))
+}
+
+/// Whether the right that a comparison takes is granted; that of the validity takes none.
+fn may_compare(memory: &Memory, comparison: Comparison) -> bool
+    ensures { result ≡ may_compare (of_memory memory.now) (Some comparison) }
+{
+    match comparison {
+        Comparison::Age => is_granted(memory, AGE_VERIFICATION),
+        Comparison::Validity => true,
+        Comparison::Community => is_granted(memory, COMMUNITY_VERIFICATION),
+    }
+}
+
+/// Whether a terminal may have this compared. Rule 20 is that there is no PACE, the rules 26, 28 and 31 are those of
+/// `check_terminal`, rule 32 is that the application is not selected, rule 33 that the right is not granted.
+pub fn check_comparison(memory: &Memory, comparison: Comparison) -> Result<(), Refusal>
+    ensures { refusal_in result ≡ comparing_refused (of_memory memory.now) comparison }
+{
+    if memory.pace.is_none() {
+        return Err(NO_PACE);
+    }
+    check_terminal(memory)?;
+    if !memory.selected {
+        return Err(NOT_SELECTED);
+    }
+    if !may_compare(memory, comparison) {
+        return Err(NO_RIGHT);
+    }
+    Ok(())
 }
 
 /// Whether a terminal may manage PIN and CAN. Rule 20 is that there is no PACE, the rules 26, 28 and 31 are those of

@@ -17,7 +17,7 @@ use Rattle.eid_model.specs.Moments.{Event, PoweredOn, PoweredOff, Received, Plai
 use Rattle.eid_model.specs.Runs.{answers_of}
 use Rattle.eid_model.specs.Sessions.{State}
 use Rattle.eid_model.specs.declared.kind.Kind.{Kind}
-use Rattle.eid_model.specs.declared.kind.Kind.TheVariants.{SelectApplication, SelectMasterFile, SelectFile, ReadBinary, UpdateBinary, SelectPace, SelectPublicKey, VerifyCertificate, AnnounceTerminal, GetChallenge, ExternalAuthenticate, SelectChipAuthentication, EncryptedNonce, MapNonce, PerformKeyAgreement, MutualAuthentication, AuthenticateChip, ChangePin, UnblockPin, ChangeCan, ActivatePin, DeactivatePin, NoProtocol, NoStep}
+use Rattle.eid_model.specs.declared.kind.Kind.TheVariants.{SelectApplication, SelectMasterFile, SelectFile, ReadBinary, UpdateBinary, SelectPace, SelectPublicKey, VerifyCertificate, AnnounceTerminal, GetChallenge, ExternalAuthenticate, SelectChipAuthentication, EncryptedNonce, MapNonce, PerformKeyAgreement, MutualAuthentication, AuthenticateChip, ChangePin, UnblockPin, ChangeCan, ActivatePin, DeactivatePin, VerifyAuxiliary, NoProtocol, NoStep}
 use Rattle.eid_model.specs.Rules.{Incoming, NoCommand, MissingObjects, WrongObjects, OfCommand, Situation, RuleRow, plain_of, answer_rules, commit_rules, first_failed, proves_pin, is_token, token_effects, one_effect, to_advance, to_commit, to_write, file_meant, offset_meant, bytes_of_file, concerns}
 use Rattle.eid_model.specs.Answers.{due, due_by, situation, rules_before}
 use Rattle.eid_model.specs.Bodies.{data_in}
@@ -77,8 +77,8 @@ update_entered : (s : Situation) → s.kind ≡ Some UpdateBinary → first_fail
     → AreEntered s.kept (to_write (file_meant s) (offset_meant s.command) s.command.body)
 update_entered s kind none =
     write_entered s.kept (file_meant s) (offset_meant s.command) s.command.body
-    (held_at (concerns (ReadBinary ∷ UpdateBinary ∷ []) s.kind) _ (ap (concerns (ReadBinary ∷ UpdateBinary ∷ [])) kind) (each_holds 31 rules_unproved s none))
-    (held_at (concerns (UpdateBinary ∷ []) s.kind) _ (ap (concerns (UpdateBinary ∷ [])) kind) (each_holds 33 rules_unproved s none))
+    (held_at (concerns (ReadBinary ∷ UpdateBinary ∷ []) s.kind) _ (ap (concerns (ReadBinary ∷ UpdateBinary ∷ [])) kind) (each_holds 34 rules_unproved s none))
+    (held_at (concerns (UpdateBinary ∷ []) s.kind) _ (ap (concerns (UpdateBinary ∷ [])) kind) (each_holds 36 rules_unproved s none))
 
 -- what the kinds commit is entered
 kind_entered : (kind : Option Kind) (s : Situation) → (kind ≡ Some UpdateBinary → AreEntered s.kept (to_commit (Some UpdateBinary) s))
@@ -107,6 +107,7 @@ kind_entered (Some UnblockPin) s update = (tt, tt)
 kind_entered (Some ChangeCan) s update = (tt, tt)
 kind_entered (Some ActivatePin) s update = (tt, tt)
 kind_entered (Some DeactivatePin) s update = (tt, tt)
+kind_entered (Some VerifyAuxiliary) s update = tt
 kind_entered (Some NoProtocol) s update = tt
 kind_entered (Some NoStep) s update = tt
 

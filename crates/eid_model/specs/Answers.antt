@@ -22,7 +22,7 @@ use Rattle.eid_cvc.specs.CertificateIn.{certificate_in}
 use Rattle.eid_cvc.specs.Chains.{PlainChain}
 use Rattle.eid_trust.specs.Trust.{key_of, signer_of}
 use Rattle.eid_model.specs.declared.kind.Kind.{Kind}
-use Rattle.eid_model.specs.declared.kind.Kind.TheVariants.{SelectApplication, SelectMasterFile, SelectFile, ReadBinary, UpdateBinary, SelectPace, SelectPublicKey, VerifyCertificate, AnnounceTerminal, GetChallenge, ExternalAuthenticate, SelectChipAuthentication, EncryptedNonce, MapNonce, PerformKeyAgreement, MutualAuthentication, AuthenticateChip, ChangePin, UnblockPin, ChangeCan, ActivatePin, DeactivatePin, NoProtocol, NoStep}
+use Rattle.eid_model.specs.declared.kind.Kind.TheVariants.{SelectApplication, SelectMasterFile, SelectFile, ReadBinary, UpdateBinary, SelectPace, SelectPublicKey, VerifyCertificate, AnnounceTerminal, GetChallenge, ExternalAuthenticate, SelectChipAuthentication, EncryptedNonce, MapNonce, PerformKeyAgreement, MutualAuthentication, AuthenticateChip, ChangePin, UnblockPin, ChangeCan, ActivatePin, DeactivatePin, VerifyAuxiliary, NoProtocol, NoStep}
 use Rattle.eid_model.specs.Bodies.{data_in, authentication_data}
 use Rattle.eid_model.specs.Kinds.{kind_named}
 use Rattle.eid_model.specs.Runs.{Phase, Chose, SentNonce, HasBase, HasSecret, choice_in, Authentication, Announced, Challenged, ChoseProtocol}
@@ -106,6 +106,7 @@ success_of UnblockPin s = status_alone 0x9000
 success_of ChangeCan s = status_alone 0x9000
 success_of ActivatePin s = status_alone 0x9000
 success_of DeactivatePin s = status_alone 0x9000
+success_of VerifyAuxiliary s = status_alone 0x9000
 success_of NoProtocol s = status_alone 0x9000
 success_of NoStep s = status_alone 0x9000
 
@@ -220,6 +221,7 @@ question_of (Some UnblockPin) s = None
 question_of (Some ChangeCan) s = None
 question_of (Some ActivatePin) s = None
 question_of (Some DeactivatePin) s = None
+question_of (Some VerifyAuxiliary) s = None
 question_of (Some NoProtocol) s = None
 question_of (Some NoStep) s = None
 

@@ -6,7 +6,7 @@ use Rattle.eid_apdu.specs.Command.{PlainCommand}
 use Rattle.eid_apdu.specs.Chaining.{is_fragment}
 use Rattle.eid_ca.specs.Selections.{chosen_in}
 use Rattle.eid_model.specs.declared.kind.Kind.{Kind}
-use Rattle.eid_model.specs.declared.kind.Kind.TheVariants.{SelectApplication, SelectMasterFile, SelectFile, ReadBinary, UpdateBinary, SelectPace, SelectPublicKey, VerifyCertificate, AnnounceTerminal, GetChallenge, ExternalAuthenticate, SelectChipAuthentication, EncryptedNonce, MapNonce, PerformKeyAgreement, MutualAuthentication, AuthenticateChip, ChangePin, UnblockPin, ChangeCan, ActivatePin, DeactivatePin, NoProtocol, NoStep}
+use Rattle.eid_model.specs.declared.kind.Kind.TheVariants.{SelectApplication, SelectMasterFile, SelectFile, ReadBinary, UpdateBinary, SelectPace, SelectPublicKey, VerifyCertificate, AnnounceTerminal, GetChallenge, ExternalAuthenticate, SelectChipAuthentication, EncryptedNonce, MapNonce, PerformKeyAgreement, MutualAuthentication, AuthenticateChip, ChangePin, UnblockPin, ChangeCan, ActivatePin, DeactivatePin, VerifyAuxiliary, NoProtocol, NoStep}
 
 -- the kinds by number, in the order of the table
 abbrev pub number_of : Kind → ℕ
@@ -32,8 +32,9 @@ number_of UnblockPin = 18
 number_of ChangeCan = 19
 number_of ActivatePin = 20
 number_of DeactivatePin = 21
-number_of NoProtocol = 22
-number_of NoStep = 23
+number_of VerifyAuxiliary = 22
+number_of NoProtocol = 23
+number_of NoStep = 24
 
 abbrev pub same_kind : Kind → Kind → Bool
 same_kind a b = number_of a == number_of b
@@ -91,6 +92,7 @@ kinds =
     record { kind = ChangeCan; classes = 0x00 ∷ []; instruction = 0x2C; parameters = λ p. p == 0x0202; comes = always } ∷
     record { kind = ActivatePin; classes = 0x00 ∷ []; instruction = 0x44; parameters = λ p. p == 0x1003; comes = always } ∷
     record { kind = DeactivatePin; classes = 0x00 ∷ []; instruction = 0x04; parameters = λ p. p == 0x1003; comes = always } ∷
+    record { kind = VerifyAuxiliary; classes = 0x80 ∷ []; instruction = 0x20; parameters = λ p. p == 0x8000; comes = always } ∷
     -- an MSE:Set AT that names no protocol of its parameters
     record { kind = NoProtocol; classes = 0x00 ∷ []; instruction = 0x22; parameters = λ p. p == 0x41A4; comes = always } ∷
     -- a step that the run has not come to
@@ -147,6 +149,7 @@ step_after UnblockPin = None
 step_after ChangeCan = None
 step_after ActivatePin = None
 step_after DeactivatePin = None
+step_after VerifyAuxiliary = None
 step_after NoProtocol = None
 step_after NoStep = None
 
@@ -174,6 +177,7 @@ begins_run UnblockPin = false
 begins_run ChangeCan = false
 begins_run ActivatePin = false
 begins_run DeactivatePin = false
+begins_run VerifyAuxiliary = false
 begins_run NoProtocol = false
 begins_run NoStep = false
 
@@ -200,6 +204,7 @@ goes_on_in_run UnblockPin = false
 goes_on_in_run ChangeCan = false
 goes_on_in_run ActivatePin = false
 goes_on_in_run DeactivatePin = false
+goes_on_in_run VerifyAuxiliary = false
 goes_on_in_run NoProtocol = false
 goes_on_in_run NoStep = false
 

@@ -4,6 +4,7 @@ pub mod Chains
 pub mod Bodies
 pub mod Runs
 pub mod Sessions
+pub mod Auxiliary
 pub mod Rules
 pub mod Answers
 pub mod Legal

@@ -25,7 +25,7 @@ use Rattle.eid_record.specs.Reading.{is_ascii_digit}
 use Rattle.eid_record.specs.declared.fields.Password.{Password}
 use Rattle.eid_password.specs.Passwords.{is_can, is_pin, is_puk, has_try, is_resumed, active_rule, try_rule, resumed_rule}
 use Rattle.eid_model.specs.declared.kind.Kind.{Kind}
-use Rattle.eid_model.specs.declared.kind.Kind.TheVariants.{SelectApplication, SelectMasterFile, SelectFile, ReadBinary, UpdateBinary, SelectPace, SelectPublicKey, VerifyCertificate, AnnounceTerminal, GetChallenge, ExternalAuthenticate, SelectChipAuthentication, EncryptedNonce, MapNonce, PerformKeyAgreement, MutualAuthentication, AuthenticateChip, ChangePin, UnblockPin, ChangeCan, ActivatePin, DeactivatePin, NoProtocol, NoStep}
+use Rattle.eid_model.specs.declared.kind.Kind.TheVariants.{SelectApplication, SelectMasterFile, SelectFile, ReadBinary, UpdateBinary, SelectPace, SelectPublicKey, VerifyCertificate, AnnounceTerminal, GetChallenge, ExternalAuthenticate, SelectChipAuthentication, EncryptedNonce, MapNonce, PerformKeyAgreement, MutualAuthentication, AuthenticateChip, ChangePin, UnblockPin, ChangeCan, ActivatePin, DeactivatePin, VerifyAuxiliary, NoProtocol, NoStep}
 use Rattle.eid_model.specs.Kinds.{same_kind, kinds, has_instruction, has_parameters, is_by_short, application_id}
 use Rattle.eid_files.specs.Names.{card_access, card_security, file_of_id, file_of_short}
 use Rattle.eid_files.specs.Ranges.{end_rule, offset_rule}
@@ -36,6 +36,9 @@ use Rattle.eid_pace.specs.Check.{terminal_token}
 use Rattle.eid_pace.specs.Selections.{PlainSelection, password_named}
 use Rattle.eid_pace.specs.SelectionIn.{selection_in}
 use Rattle.eid_model.specs.Bodies.{no_data, data_in, holds_value, holds_point, key_name_in}
+use Rattle.eid_model.specs.Auxiliary.{comparison_in, compared_of, has_reference, has_sent, is_yes}
+use Rattle.eid_model.specs.declared.comparison.Comparison.{Comparison}
+use Rattle.eid_model.specs.declared.comparison.Comparison.TheVariants.{Age, Validity, Community}
 use Rattle.eid_model.specs.Runs.{Phase, Idle, Chose, SentNonce, HasBase, HasSecret, ChoseKey, Authentication, NotBegun, Announced, Challenged, ChoseProtocol}
 use Rattle.eid_model.specs.Sessions.{State, PaceMemory, number_of_two}
 
@@ -115,6 +118,7 @@ is_formed (Some UnblockPin) body = length body == 0
 is_formed (Some ChangeCan) body = length body == PIN_SIZE && list_all is_ascii_digit body
 is_formed (Some ActivatePin) body = length body == 0
 is_formed (Some DeactivatePin) body = length body == 0
+is_formed (Some VerifyAuxiliary) body = is_some (comparison_in body)
 is_formed (Some NoProtocol) body = false
 is_formed (Some NoStep) body = true
 
@@ -151,6 +155,7 @@ is_named (Some UnblockPin) s = true
 is_named (Some ChangeCan) s = true
 is_named (Some ActivatePin) s = true
 is_named (Some DeactivatePin) s = true
+is_named (Some VerifyAuxiliary) s = true
 is_named (Some NoProtocol) s = true
 is_named (Some NoStep) s = true
 
@@ -237,6 +242,7 @@ reads_card_access (Some UnblockPin) file = false
 reads_card_access (Some ChangeCan) file = false
 reads_card_access (Some ActivatePin) file = false
 reads_card_access (Some DeactivatePin) file = false
+reads_card_access (Some VerifyAuxiliary) file = false
 reads_card_access (Some NoProtocol) file = false
 reads_card_access (Some NoStep) file = false
 
@@ -265,6 +271,7 @@ may_manage (Some UnblockPin) pace = was_with is_puk pace
 may_manage (Some ChangeCan) pace = false
 may_manage (Some ActivatePin) pace = false
 may_manage (Some DeactivatePin) pace = false
+may_manage (Some VerifyAuxiliary) pace = false
 may_manage (Some NoProtocol) pace = false
 may_manage (Some NoStep) pace = false
 
@@ -353,6 +360,7 @@ is_for_terminal (Some UnblockPin) file = false
 is_for_terminal (Some ChangeCan) file = true
 is_for_terminal (Some ActivatePin) file = true
 is_for_terminal (Some DeactivatePin) file = true
+is_for_terminal (Some VerifyAuxiliary) file = true
 is_for_terminal (Some NoProtocol) file = false
 is_for_terminal (Some NoStep) file = false
 
@@ -384,6 +392,12 @@ unfoldable pub is_granted : State → ℕ → Bool
 is_granted s bit = s.chip_proven && is_right bit && holder_gave s.pace bit && chain_gave s.certificates bit
 
 -- the rights by their numbers
+abbrev pub AGE_VERIFICATION : ℕ
+AGE_VERIFICATION = 0
+
+abbrev pub COMMUNITY_VERIFICATION : ℕ
+COMMUNITY_VERIFICATION = 1
+
 abbrev pub CAN_ALLOWED : ℕ
 CAN_ALLOWED = 4
 
@@ -409,33 +423,41 @@ abbrev pub with_file : (ℕ → Bool) → Option ℕ → Bool
 with_file holds None = false
 with_file holds (Some file) = holds file
 
+-- the right that a comparison takes is granted; that of the validity takes none
+abbrev pub may_compare : State → Option Comparison → Bool
+may_compare s None = false
+may_compare s (Some Age) = is_granted s AGE_VERIFICATION
+may_compare s (Some Validity) = true
+may_compare s (Some Community) = is_granted s COMMUNITY_VERIFICATION
+
 -- the right that a command takes is granted
-abbrev pub has_its_right : Option Kind → Option ℕ → State → Bool
-has_its_right None file s = false
-has_its_right (Some SelectApplication) file s = false
-has_its_right (Some SelectMasterFile) file s = false
-has_its_right (Some SelectFile) file s = false
-has_its_right (Some ReadBinary) file s = with_file (λ f. is_granted s (reading (group_of f))) file
-has_its_right (Some UpdateBinary) file s = with_file (λ f. is_granted s (writing (group_of f))) file
-has_its_right (Some SelectPace) file s = false
-has_its_right (Some SelectPublicKey) file s = false
-has_its_right (Some VerifyCertificate) file s = false
-has_its_right (Some AnnounceTerminal) file s = false
-has_its_right (Some GetChallenge) file s = false
-has_its_right (Some ExternalAuthenticate) file s = false
-has_its_right (Some SelectChipAuthentication) file s = false
-has_its_right (Some EncryptedNonce) file s = false
-has_its_right (Some MapNonce) file s = false
-has_its_right (Some PerformKeyAgreement) file s = false
-has_its_right (Some MutualAuthentication) file s = false
-has_its_right (Some AuthenticateChip) file s = false
-has_its_right (Some ChangePin) file s = false
-has_its_right (Some UnblockPin) file s = false
-has_its_right (Some ChangeCan) file s = is_granted s PIN_MANAGEMENT
-has_its_right (Some ActivatePin) file s = is_granted s PIN_MANAGEMENT
-has_its_right (Some DeactivatePin) file s = is_granted s PIN_MANAGEMENT
-has_its_right (Some NoProtocol) file s = false
-has_its_right (Some NoStep) file s = false
+abbrev pub has_its_right : Option Kind → Option ℕ → Option Comparison → State → Bool
+has_its_right None file comparison s = false
+has_its_right (Some SelectApplication) file comparison s = false
+has_its_right (Some SelectMasterFile) file comparison s = false
+has_its_right (Some SelectFile) file comparison s = false
+has_its_right (Some ReadBinary) file comparison s = with_file (λ f. is_granted s (reading (group_of f))) file
+has_its_right (Some UpdateBinary) file comparison s = with_file (λ f. is_granted s (writing (group_of f))) file
+has_its_right (Some SelectPace) file comparison s = false
+has_its_right (Some SelectPublicKey) file comparison s = false
+has_its_right (Some VerifyCertificate) file comparison s = false
+has_its_right (Some AnnounceTerminal) file comparison s = false
+has_its_right (Some GetChallenge) file comparison s = false
+has_its_right (Some ExternalAuthenticate) file comparison s = false
+has_its_right (Some SelectChipAuthentication) file comparison s = false
+has_its_right (Some EncryptedNonce) file comparison s = false
+has_its_right (Some MapNonce) file comparison s = false
+has_its_right (Some PerformKeyAgreement) file comparison s = false
+has_its_right (Some MutualAuthentication) file comparison s = false
+has_its_right (Some AuthenticateChip) file comparison s = false
+has_its_right (Some ChangePin) file comparison s = false
+has_its_right (Some UnblockPin) file comparison s = false
+has_its_right (Some ChangeCan) file comparison s = is_granted s PIN_MANAGEMENT
+has_its_right (Some ActivatePin) file comparison s = is_granted s PIN_MANAGEMENT
+has_its_right (Some DeactivatePin) file comparison s = is_granted s PIN_MANAGEMENT
+has_its_right (Some VerifyAuxiliary) file comparison s = may_compare s comparison
+has_its_right (Some NoProtocol) file comparison s = false
+has_its_right (Some NoStep) file comparison s = false
 
 -- a terminal may manage the PIN
 unfoldable pub manages_pin : State → Bool
@@ -499,6 +521,7 @@ to_commit (Some UnblockPin) s = Unblock (was_with is_puk s.state.pace) ∷ []
 to_commit (Some ChangeCan) s = SetCan s.command.body ∷ []
 to_commit (Some ActivatePin) s = Active true ∷ []
 to_commit (Some DeactivatePin) s = Active false ∷ []
+to_commit (Some VerifyAuxiliary) s = []
 to_commit (Some NoProtocol) s = []
 to_commit (Some NoStep) s = []
 
@@ -523,7 +546,7 @@ token_status kept pin = if pin then 0x63C0 + (applied Spend kept).tries else 0x6
 
 -- the kinds that need a terminal which has authenticated itself, after which the chip has; of READ BINARY those of data groups
 abbrev pub for_terminals : List Kind
-for_terminals = ReadBinary ∷ UpdateBinary ∷ ChangeCan ∷ ActivatePin ∷ DeactivatePin ∷ []
+for_terminals = ReadBinary ∷ UpdateBinary ∷ ChangeCan ∷ ActivatePin ∷ DeactivatePin ∷ VerifyAuxiliary ∷ []
 
 -- whether the command can be incoming at all
 abbrev pub transport_rules : List RuleRow
@@ -584,7 +607,7 @@ kind_rules =
       number = 20;
       status = fixed 0x6982;
       kinds = ReadBinary ∷ UpdateBinary ∷ SelectPublicKey ∷ AnnounceTerminal ∷ SelectChipAuthentication ∷ ChangePin ∷ UnblockPin ∷ ChangeCan ∷
-          ActivatePin ∷ DeactivatePin ∷ [];
+          ActivatePin ∷ DeactivatePin ∷ VerifyAuxiliary ∷ [];
       holds = λ s. reads_card_access s.kind (file_meant s) || is_some s.state.pace;
     } ∷
     -- in that PACE the holder gave a template
@@ -611,7 +634,7 @@ kind_rules =
     record {
       number = 26;
       status = fixed 0x6982;
-      kinds = ReadBinary ∷ UpdateBinary ∷ SelectChipAuthentication ∷ ChangeCan ∷ ActivatePin ∷ DeactivatePin ∷ [];
+      kinds = ReadBinary ∷ UpdateBinary ∷ SelectChipAuthentication ∷ ChangeCan ∷ ActivatePin ∷ DeactivatePin ∷ VerifyAuxiliary ∷ [];
       holds = λ s. not (wants_terminal s.kind (file_meant s)) || is_some s.state.terminal;
     } ∷
     -- no chip authentication succeeded after it
@@ -643,7 +666,7 @@ kind_rules =
     record {
       number = 32;
       status = fixed 0x6985;
-      kinds = ReadBinary ∷ UpdateBinary ∷ [];
+      kinds = ReadBinary ∷ UpdateBinary ∷ VerifyAuxiliary ∷ [];
       holds = λ s. not (is_for_terminal s.kind (file_meant s)) || s.state.selected;
     } ∷
     -- its right is granted
@@ -651,7 +674,23 @@ kind_rules =
       number = 33;
       status = fixed 0x6982;
       kinds = for_terminals;
-      holds = λ s. not (is_for_terminal s.kind (file_meant s)) || has_its_right s.kind (file_meant s) s.state;
+      holds = λ s. not (is_for_terminal s.kind (file_meant s)) || has_its_right s.kind (file_meant s) (comparison_in s.command.body) s.state;
+    } ∷
+    -- the terminal sent what is to be compared
+    record { number = 34; status = fixed 0x6A88; kinds = VerifyAuxiliary ∷ []; holds = λ s. has_sent (comparison_in s.command.body) s.state.terminal } ∷
+    -- the data group that it is compared with is present, and holds something to compare
+    record {
+      number = 35;
+      status = fixed 0x6A88;
+      kinds = VerifyAuxiliary ∷ [];
+      holds = λ s. has_reference (compared_of s.kept (comparison_in s.command.body) s.state.terminal);
+    } ∷
+    -- the comparison holds
+    record {
+      number = 36;
+      status = fixed 0x6300;
+      kinds = VerifyAuxiliary ∷ [];
+      holds = λ s. is_yes (compared_of s.kept (comparison_in s.command.body) s.state.terminal);
     } ∷
     -- the file is present
     record { number = 37; status = fixed 0x6A82; kinds = ReadBinary ∷ UpdateBinary ∷ []; holds = λ s. is_some (bytes_of_file s.kept (file_meant s)) } ∷

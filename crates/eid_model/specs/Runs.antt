@@ -16,7 +16,7 @@ use Rattle.eid_ta.specs.AnnouncementIn.{announcement_in}
 use Rattle.eid_ca.specs.States.{PlainCaChosen}
 use Rattle.eid_ca.specs.Selections.{chosen_in, chosen_by as chip_chosen_by}
 use Rattle.eid_model.specs.declared.kind.Kind.{Kind}
-use Rattle.eid_model.specs.declared.kind.Kind.TheVariants.{SelectApplication, SelectMasterFile, SelectFile, ReadBinary, UpdateBinary, SelectPace, SelectPublicKey, VerifyCertificate, AnnounceTerminal, GetChallenge, ExternalAuthenticate, SelectChipAuthentication, EncryptedNonce, MapNonce, PerformKeyAgreement, MutualAuthentication, AuthenticateChip, ChangePin, UnblockPin, ChangeCan, ActivatePin, DeactivatePin, NoProtocol, NoStep}
+use Rattle.eid_model.specs.declared.kind.Kind.TheVariants.{SelectApplication, SelectMasterFile, SelectFile, ReadBinary, UpdateBinary, SelectPace, SelectPublicKey, VerifyCertificate, AnnounceTerminal, GetChallenge, ExternalAuthenticate, SelectChipAuthentication, EncryptedNonce, MapNonce, PerformKeyAgreement, MutualAuthentication, AuthenticateChip, ChangePin, UnblockPin, ChangeCan, ActivatePin, DeactivatePin, VerifyAuxiliary, NoProtocol, NoStep}
 use Rattle.eid_model.specs.Kinds.{kind_named, has_form_of, step_after, begins_run, goes_on_in_run}
 use Rattle.eid_model.specs.Moments.{PlainMoment, succeeded}
 use Rattle.eid_model.specs.Chains.{fragment, request_of}
@@ -126,6 +126,7 @@ entered UnblockPin c answers before = Idle
 entered ChangeCan c answers before = Idle
 entered ActivatePin c answers before = Idle
 entered DeactivatePin c answers before = Idle
+entered VerifyAuxiliary c answers before = Idle
 entered NoProtocol c answers before = Idle
 entered NoStep c answers before = Idle
 
@@ -200,6 +201,7 @@ claimed UnblockPin c answers context before = NotBegun
 claimed ChangeCan c answers context before = NotBegun
 claimed ActivatePin c answers context before = NotBegun
 claimed DeactivatePin c answers context before = NotBegun
+claimed VerifyAuxiliary c answers context before = NotBegun
 claimed NoProtocol c answers context before = NotBegun
 claimed NoStep c answers context before = NotBegun
 

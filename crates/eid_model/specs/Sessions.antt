@@ -18,7 +18,7 @@ use Rattle.eid_ca.specs.Keys.{enc_key, mac_key}
 use Rattle.eid_trust.specs.Trust.{is_link, is_verifier_role, is_terminal_role, no_sectors, party_of, point_named}
 use Rattle.eid_sm.specs.Keys.{Keys, ChannelState}
 use Rattle.eid_model.specs.declared.kind.Kind.{Kind}
-use Rattle.eid_model.specs.declared.kind.Kind.TheVariants.{SelectApplication, SelectMasterFile, SelectFile, ReadBinary, UpdateBinary, SelectPace, SelectPublicKey, VerifyCertificate, AnnounceTerminal, GetChallenge, ExternalAuthenticate, SelectChipAuthentication, EncryptedNonce, MapNonce, PerformKeyAgreement, MutualAuthentication, AuthenticateChip, ChangePin, UnblockPin, ChangeCan, ActivatePin, DeactivatePin, NoProtocol, NoStep}
+use Rattle.eid_model.specs.declared.kind.Kind.TheVariants.{SelectApplication, SelectMasterFile, SelectFile, ReadBinary, UpdateBinary, SelectPace, SelectPublicKey, VerifyCertificate, AnnounceTerminal, GetChallenge, ExternalAuthenticate, SelectChipAuthentication, EncryptedNonce, MapNonce, PerformKeyAgreement, MutualAuthentication, AuthenticateChip, ChangePin, UnblockPin, ChangeCan, ActivatePin, DeactivatePin, VerifyAuxiliary, NoProtocol, NoStep}
 use Rattle.eid_files.specs.Names.{file_of_id, file_of_short}
 use Rattle.eid_model.specs.Kinds.{is_by_short}
 use Rattle.eid_model.specs.Moments.{PlainMoment, ends_session}
@@ -53,6 +53,7 @@ selects UnblockPin = None
 selects ChangeCan = None
 selects ActivatePin = None
 selects DeactivatePin = None
+selects VerifyAuxiliary = None
 selects NoProtocol = None
 selects NoStep = None
 
@@ -84,6 +85,7 @@ names UnblockPin c = None
 names ChangeCan c = None
 names ActivatePin c = None
 names DeactivatePin c = None
+names VerifyAuxiliary c = None
 names NoProtocol c = None
 names NoStep c = None
 
@@ -137,6 +139,7 @@ pace_done UnblockPin phase = None
 pace_done ChangeCan phase = None
 pace_done ActivatePin phase = None
 pace_done DeactivatePin phase = None
+pace_done VerifyAuxiliary phase = None
 pace_done NoProtocol phase = None
 pace_done NoStep phase = None
 
@@ -186,6 +189,7 @@ keys_by UnblockPin given phase = None
 keys_by ChangeCan given phase = None
 keys_by ActivatePin given phase = None
 keys_by DeactivatePin given phase = None
+keys_by VerifyAuxiliary given phase = None
 keys_by NoProtocol given phase = None
 keys_by NoStep given phase = None
 
@@ -242,6 +246,7 @@ accepts UnblockPin c = None
 accepts ChangeCan c = None
 accepts ActivatePin c = None
 accepts DeactivatePin c = None
+accepts VerifyAuxiliary c = None
 accepts NoProtocol c = None
 accepts NoStep c = None
 
@@ -337,6 +342,7 @@ makes_known UnblockPin before = None
 makes_known ChangeCan before = None
 makes_known ActivatePin before = None
 makes_known DeactivatePin before = None
+makes_known VerifyAuxiliary before = None
 makes_known NoProtocol before = None
 makes_known NoStep before = None
 
@@ -384,6 +390,7 @@ proves_chip UnblockPin = None
 proves_chip ChangeCan = None
 proves_chip ActivatePin = None
 proves_chip DeactivatePin = None
+proves_chip VerifyAuxiliary = None
 proves_chip NoProtocol = None
 proves_chip NoStep = None
 

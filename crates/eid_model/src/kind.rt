@@ -45,6 +45,8 @@ pub enum Kind {
     ActivatePin,
     /// DEACTIVATE of the PIN.
     DeactivatePin,
+    /// VERIFY of auxiliary data: age, document validity or community.
+    VerifyAuxiliary,
     /// An MSE:Set AT that names no protocol of its parameters.
     NoProtocol,
     /// A step that the run has not come to.

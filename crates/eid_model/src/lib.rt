@@ -1,11 +1,13 @@
 //! The definitions of the chip: moments and journals, sessions, rules, answers, legality and the trace.
 #![tactic(auto)]
 
+mod comparison;
 mod kind;
 mod law;
 mod moment;
 mod text;
 
+pub use comparison::Comparison;
 pub use kind::Kind;
 pub use law::{
     law_access, law_authentication_data, law_date, law_fresh, law_kept, law_key_name,

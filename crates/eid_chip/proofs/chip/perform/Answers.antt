@@ -3,7 +3,7 @@ use Rattle.std.proofs.Common.{refl, ap, sym, ◌∙◌}
 use Rattle.eid_apdu.specs.Command.{plain_command}
 use Rattle.eid_apdu.specs.Answer.{plain_reply}
 use Rattle.eid_base.specs.declared.codes.Rule.{Rule}
-use Rattle.eid_model.specs.declared.kind.Kind.TheVariants.{SelectApplication, SelectMasterFile, SelectFile, ReadBinary, SelectPace, SelectPublicKey, AnnounceTerminal, GetChallenge, ExternalAuthenticate, SelectChipAuthentication, EncryptedNonce, MapNonce, PerformKeyAgreement, AuthenticateChip, NoProtocol, NoStep}
+use Rattle.eid_model.specs.declared.kind.Kind.TheVariants.{SelectApplication, SelectMasterFile, SelectFile, ReadBinary, SelectPace, SelectPublicKey, AnnounceTerminal, GetChallenge, ExternalAuthenticate, SelectChipAuthentication, EncryptedNonce, MapNonce, PerformKeyAgreement, AuthenticateChip, VerifyAuxiliary, NoProtocol, NoStep}
 use Rattle.eid_chip.specs.Held.{held}
 use Rattle.eid_chip.specs.States.{state}
 use Rattle.eid_chip.proofs.HeldFiles.{held_fields}
@@ -39,6 +39,13 @@ returns-in-ReadBinary-clause-performed g c =
     let command = plain_command c.args.c.now in
     settled _ ReadBinary c.args.session command c.uncommitted-in-ReadBinary.result c.read_binary.result (plain_reply c.read_binary.new.reply) (g.C.Coprocessor.seen c.args.copro.now) (g.C.Coprocessor.seen c.args.copro.now) c.args.store.now (g.E.Eeprom.device c.args.cells.now) cells
     c.in-ReadBinary.is (λ s. refl) c.requires.mounted c.uncommitted-in-ReadBinary.ensures (unasked (g.C.Coprocessor.seen c.args.copro.now) ReadBinary (held cells) c.args.session command _ _ c.read_binary.ensures.told)
+
+pub returns-in-VerifyAuxiliary-clause-performed : goal.returns-in-VerifyAuxiliary-clause-performed
+returns-in-VerifyAuxiliary-clause-performed g c =
+    let cells = g.E.Eeprom.cells c.args.cells.now in
+    let command = plain_command c.args.c.now in
+    settled _ VerifyAuxiliary c.args.session command c.uncommitted-in-VerifyAuxiliary.result c.verify_auxiliary.result (plain_reply c.verify_auxiliary.new.reply) (g.C.Coprocessor.seen c.args.copro.now) (g.C.Coprocessor.seen c.args.copro.now) c.args.store.now (g.E.Eeprom.device c.args.cells.now) cells
+    c.in-VerifyAuxiliary.is (λ s. refl) c.requires.mounted c.uncommitted-in-VerifyAuxiliary.ensures (unasked (g.C.Coprocessor.seen c.args.copro.now) VerifyAuxiliary (held cells) c.args.session command _ _ c.verify_auxiliary.ensures.told)
 
 pub returns-in-SelectPace-clause-performed : goal.returns-in-SelectPace-clause-performed
 returns-in-SelectPace-clause-performed g c =

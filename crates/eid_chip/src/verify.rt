@@ -1,0 +1,182 @@
+//! VERIFY of auxiliary data (BSI TR-03110-2, TR-03110-3).
+ghost use Rattle.std.specs.Prelude.{◌≡◌, ◌≤◌, [], Err, None, Option, Some};
+ghost use Rattle.std.specs.Str.{bytes_eq};
+ghost use Rattle.arrayvec.specs.ArrayVec.{array_vec_len};
+ghost use Rattle.eid_apdu.specs.Answer.{plain_reply};
+ghost use Rattle.eid_apdu.specs.Command.{plain_command};
+ghost use Rattle.eid_sm.specs.Keys.{ChannelState};
+ghost use Rattle.eid_store.specs.Store as stored;
+ghost use Rattle.eid_model.specs.Auxiliary.{body_of, comparison_in, reference_file};
+ghost use Rattle.eid_chip.specs.Granting.{refusal_in, sent_refused, sent_to, verdict_refused};
+ghost use Rattle.eid_chip.specs.Held.{held, held_file};
+ghost use Rattle.eid_chip.specs.States.{state};
+ghost use Rattle.eid_chip.specs.Steps.{IsAnsweredByKind};
+
+use crate::ending::{carried_out, refused};
+use crate::files::put_file;
+use crate::reaction::Reaction;
+use crate::refusal::{BODY_FORM, NO_REFERENCE, NOT_COMPARED, NOTHING_SENT, Refusal};
+use crate::rights::check_comparison;
+use crate::session::{Memory, Session};
+use eid_apdu::{Command, Reply};
+use eid_aux::{Compared, compare_birth, compare_community, compare_expiry};
+use eid_cells::Eeprom;
+use eid_model::{Comparison, Kind};
+use eid_record::FileNo;
+use eid_store::Store;
+
+/// Whether the body is one object 06 with the identifier of the date of birth (BSI TR-03110-3).
+#[tactic(auto, unfolding(eid_tlv::specs::Objects::object, eid_tlv::specs::Objects::tag_bytes, eid_tlv::specs::Objects::length_bytes))]
+fn names_age(body: &[u8]) -> bool
+    ensures { result ≡ bytes_eq body.now (body_of Comparison.Age) }
+{
+    body == [
+        0x06, 0x09, 0x04, 0x00, 0x7f, 0x00, 0x07, 0x03, 0x01, 0x04, 0x01,
+    ]
+    .as_slice()
+}
+
+/// Whether the body is one object 06 with the identifier of the date of expiry (BSI TR-03110-3).
+#[tactic(auto, unfolding(eid_tlv::specs::Objects::object, eid_tlv::specs::Objects::tag_bytes, eid_tlv::specs::Objects::length_bytes))]
+fn names_validity(body: &[u8]) -> bool
+    ensures { result ≡ bytes_eq body.now (body_of Comparison.Validity) }
+{
+    body == [
+        0x06, 0x09, 0x04, 0x00, 0x7f, 0x00, 0x07, 0x03, 0x01, 0x04, 0x02,
+    ]
+    .as_slice()
+}
+
+/// Whether the body is one object 06 with the identifier of the community (BSI TR-03110-3).
+#[tactic(auto, unfolding(eid_tlv::specs::Objects::object, eid_tlv::specs::Objects::tag_bytes, eid_tlv::specs::Objects::length_bytes))]
+fn names_community(body: &[u8]) -> bool
+    ensures { result ≡ bytes_eq body.now (body_of Comparison.Community) }
+{
+    body == [
+        0x06, 0x09, 0x04, 0x00, 0x7f, 0x00, 0x07, 0x03, 0x01, 0x04, 0x03,
+    ]
+    .as_slice()
+}
+
+/// The comparison that a body names.
+#[tactic(auto, unfolding(eid_model::specs::Auxiliary::comparison_in))]
+fn comparison_in(body: &[u8]) -> Option<Comparison>
+    ensures { result ≡ comparison_in body.now }
+{
+    if names_age(body) {
+        return Some(Comparison::Age);
+    }
+    if names_validity(body) {
+        return Some(Comparison::Validity);
+    }
+    if names_community(body) {
+        return Some(Comparison::Community);
+    }
+    None
+}
+
+/// The file that a comparison is made with: data group 8 has the date of birth, 3 the date of expiry, 18 the community.
+fn reference_file(comparison: Comparison) -> FileNo
+    ensures { result.0 ≡ reference_file comparison }
+{
+    match comparison {
+        Comparison::Age => FileNo(9),
+        Comparison::Validity => FileNo(4),
+        Comparison::Community => FileNo(19),
+    }
+}
+
+/// What a comparison that was made refuses.
+fn verdict(compared: Compared) -> Result<(), Refusal>
+    ensures { refusal_in result ≡ verdict_refused compared }
+{
+    match compared {
+        Compared::Yes => Ok(()),
+        Compared::No => Err(NOT_COMPARED),
+        Compared::NoReference => Err(NO_REFERENCE),
+    }
+}
+
+/// Compares what the terminal sent with stored bytes. Rule 34 is that nothing was sent, rule 35 that there is nothing stored to
+/// compare with, rule 36 that the comparison does not hold.
+fn compare(memory: &Memory, comparison: Comparison, stored: &[u8]) -> Result<(), Refusal>
+    ensures { refusal_in result ≡ sent_refused comparison (Some stored.now) (sent_to memory.now comparison) }
+{
+    let Some(terminal) = &memory.terminal else {
+        return Err(NOTHING_SENT);
+    };
+    match comparison {
+        Comparison::Age => match &terminal.aux.birth {
+            Some(sent) => verdict(compare_birth(stored, sent)),
+            None => Err(NOTHING_SENT),
+        },
+        Comparison::Validity => match &terminal.aux.expiry {
+            Some(sent) => verdict(compare_expiry(stored, sent)),
+            None => Err(NOTHING_SENT),
+        },
+        Comparison::Community => match &terminal.aux.community {
+            Some(sent) => verdict(compare_community(stored, sent.as_slice())),
+            None => Err(NOTHING_SENT),
+        },
+    }
+}
+
+/// Whether the terminal sent what a comparison compares. Rule 34 is that it did not, rule 35 that there is nothing stored.
+fn compare_nothing(memory: &Memory, comparison: Comparison) -> Refusal
+    ensures { refusal_in (Err result) ≡ sent_refused comparison None (sent_to memory.now comparison) }
+{
+    let Some(terminal) = &memory.terminal else {
+        return NOTHING_SENT;
+    };
+    let sent = match comparison {
+        Comparison::Age => terminal.aux.birth.is_some(),
+        Comparison::Validity => terminal.aux.expiry.is_some(),
+        Comparison::Community => terminal.aux.community.is_some(),
+    };
+    if sent { NO_REFERENCE } else { NOTHING_SENT }
+}
+
+/// Compares what the terminal sent with the file that is there for it, which is read over the content of a reply. The rules 34
+/// to 36 are those of `compare`; an absent file is nothing stored.
+fn compare_kept<E: Eeprom>(
+    memory: &Memory,
+    comparison: Comparison,
+    store: &Store,
+    cells: &E,
+    reply: &mut Reply,
+) -> Result<(), Refusal>
+    requires { stored.Fits store.now (E.device cells.now) (E.cells cells.now) }
+    ensures { refusal_in result ≡ sent_refused comparison (held_file (E.cells cells.now) (reference_file comparison)) (sent_to memory.now comparison) }
+{
+    if put_file(store, cells, reference_file(comparison), &mut reply.content) {
+        compare(memory, comparison, reply.content.as_slice())
+    } else {
+        Err(compare_nothing(memory, comparison))
+    }
+}
+
+/// VERIFY of auxiliary data that the terminal sent. Rule 10 is a body that names no comparison, the rules 20, 26, 28 and 31 to
+/// 33 are those of `check_comparison`, the rules 34 to 36 those of `compare_kept`.
+pub fn verify_auxiliary<E: Eeprom>(
+    session: Session,
+    store: &Store,
+    cells: &E,
+    c: &Command<'_>,
+    reply: &mut Reply,
+) -> Reaction
+    requires { stored.Fits store.now (E.device cells.now) (E.cells cells.now) }
+    ensures told { (channel : Option ChannelState)
+        → IsAnsweredByKind Kind.VerifyAuxiliary (held (E.cells cells.now)) (state session channel) (plain_command c.now) [] result (plain_reply reply.new) }
+    ensures small { array_vec_len reply.new.content ≤ 2048 }
+{
+    let Some(comparison) = comparison_in(c.body) else {
+        return refused(BODY_FORM, session, reply);
+    };
+    if let Err(refusal) = check_comparison(&session.memory, comparison) {
+        return refused(refusal, session, reply);
+    }
+    if let Err(refusal) = compare_kept(&session.memory, comparison, store, cells, reply) {
+        return refused(refusal, session, reply);
+    }
+    carried_out(session.without_run(), reply)
+}
