@@ -27,20 +27,20 @@ nothing_granted opening m before bit leaves = ap (λ (s : State). is_granted s b
 -- ---- what is carried out failed no rule
 
 -- the numbers of these rules are others than 0
-abbrev are_numbered : List RuleRow → Bool
+abbrev pub are_numbered : List RuleRow → Bool
 are_numbered rows = list_all (λ row. not (row.number == 0)) rows
 
-kept_at : (concerned holds : Bool) → (concerned && not holds) ≡ false → (not concerned || holds) ≡ true
+pub kept_at : (concerned holds : Bool) → (concerned && not holds) ≡ false → (not concerned || holds) ≡ true
 kept_at true true e = refl
 kept_at true false e = absurd (cc)
 kept_at false holds e = refl
 
-failed_at : (concerned holds : Bool) → (concerned && not holds) ≡ true → (not concerned || holds) ≡ false
+pub failed_at : (concerned holds : Bool) → (concerned && not holds) ≡ true → (not concerned || holds) ≡ false
 failed_at true true e = absurd (cc)
 failed_at true false e = refl
 failed_at false holds e = absurd (cc)
 
-numbered_at : (n : ℕ) → not (n == 0) ≡ true → n ≡ 0 → ⊥
+pub numbered_at : (n : ℕ) → not (n == 0) ≡ true → n ≡ 0 → ⊥
 numbered_at n other is = absurd (let no : not (n == 0) ≡ false = ap (λ (k : ℕ). not (k == 0)) is in cc)
 
 kept_more : (failed : Bool) (row : RuleRow) (rows : List RuleRow) (s : Situation) → (concerns row.kinds s.kind && not (row.holds s)) ≡ failed → not (row.number == 0) ≡ true
@@ -49,7 +49,7 @@ kept_more : (failed : Bool) (row : RuleRow) (rows : List RuleRow) (s : Situation
 kept_more true row rows s is numbered later rule = absurd (numbered_at row.number numbered rule)
 kept_more false row rows s is numbered later rule = rw (kept_at (concerns row.kinds s.kind) (row.holds s) is) (later rule)
 
-all_kept : (rows : List RuleRow) (s : Situation) → are_numbered rows ≡ true → (outcome_by (first_failed rows s) s).rule ≡ 0 → list_all (is_kept s) rows ≡ true
+pub all_kept : (rows : List RuleRow) (s : Situation) → are_numbered rows ≡ true → (outcome_by (first_failed rows s) s).rule ≡ 0 → list_all (is_kept s) rows ≡ true
 all_kept [] s numbered e = refl
 all_kept (row ∷ rows) s numbered e =
     let both = and_parts (not (row.number == 0)) (are_numbered rows) numbered in
@@ -60,7 +60,7 @@ none_more : (failed : Bool) (row : RuleRow) (rows : List RuleRow) (s : Situation
 none_more true row rows s is kept later = absurd (let no : is_kept s row ≡ false = failed_at (concerns row.kinds s.kind) (row.holds s) is in cc)
 none_more false row rows s is kept later = later
 
-none_failed : (rows : List RuleRow) (s : Situation) → list_all (is_kept s) rows ≡ true → (outcome_by (first_failed rows s) s).rule ≡ 0
+pub none_failed : (rows : List RuleRow) (s : Situation) → list_all (is_kept s) rows ≡ true → (outcome_by (first_failed rows s) s).rule ≡ 0
 none_failed [] s e = refl
 none_failed (row ∷ rows) s e =
     let both = and_parts (is_kept s row) (list_all (is_kept s) rows) e in
@@ -75,7 +75,7 @@ split_at true false false others = refl
 split_at false true rest others = refl
 split_at false false rest others = refl
 
-split : (test : RuleRow → Bool) (rows : List RuleRow) → (list_all (λ row. is_on_access row.number || test row) rows && list_all (λ row. not (is_on_access row.number) || test row) rows) ≡ list_all test rows
+pub split : (test : RuleRow → Bool) (rows : List RuleRow) → (list_all (λ row. is_on_access row.number || test row) rows && list_all (λ row. not (is_on_access row.number) || test row) rows) ≡ list_all test rows
 split test [] = refl
 split test (row ∷ rows) =
     split_at (is_on_access row.number) (test row) (list_all (λ r. is_on_access r.number || test r) rows) (list_all (λ r. not (is_on_access r.number) || test r) rows)
@@ -89,7 +89,7 @@ access_hold : (s : Situation) (file : ℕ) → file_meant s ≡ Some file → (f
     → list_all (λ row. not (is_on_access row.number) || is_kept s row) all_rules ≡ conditions s.state (reading (group_of file))
 access_hold s file meant other group kind = rw (meant, kind, other, group) refl
 
-granted_parts : (chip right holder chain : Bool) → (chip && right && holder && chain) ≡ true → (holder ≡ true) × (chain ≡ true)
+pub granted_parts : (chip right holder chain : Bool) → (chip && right && holder && chain) ≡ true → (holder ≡ true) × (chain ≡ true)
 granted_parts true true true true e = (refl, refl)
 granted_parts true true true false e = absurd (cc)
 granted_parts true true false chain e = absurd (cc)
@@ -105,7 +105,7 @@ authorised s bit e =
     let granted = granted_parts s.chip_proven (is_right bit) (holder_gave s.pace bit) (chain_gave s.certificates bit) (and_parts (is_granted s bit) true chip.1).0 in
     record { pace = pace.0; terminal = terminal.0; chip = chip.0; holder = granted.0; chain = granted.1 }
 
-granted_so : (s : State) (bit : ℕ) → is_right bit ≡ true → IsAuthorised s bit → is_granted s bit ≡ true
+pub granted_so : (s : State) (bit : ℕ) → is_right bit ≡ true → IsAuthorised s bit → is_granted s bit ≡ true
 unfolding is_granted
 granted_so s bit right a = rw (right, a.holder, a.chain, a.chip) refl
 
@@ -159,13 +159,13 @@ access_so s group r =
 
 -- ---- the law
 
-of_command : (incoming : Incoming) (c : PlainCommand) → Some c ≡ plain_of incoming → incoming ≡ OfCommand c
+pub of_command : (incoming : Incoming) (c : PlainCommand) → Some c ≡ plain_of incoming → incoming ≡ OfCommand c
 of_command NoCommand c e = absurd (cc)
 of_command MissingObjects c e = absurd (cc)
 of_command WrongObjects c e = absurd (cc)
 of_command (OfCommand other) c e = cc
 
-rule_is : (opening : FullRecord) (before : List PlainMoment) (m : PlainMoment) (c : PlainCommand) → AreLegal opening (m ∷ before) → m.plain ≡ Some c → is_some m.answer ≡ true
+pub rule_is : (opening : FullRecord) (before : List PlainMoment) (m : PlainMoment) (c : PlainCommand) → AreLegal opening (m ∷ before) → m.plain ≡ Some c → is_some m.answer ≡ true
     → m.rule ≡ (outcome (sent_at opening before c m)).rule
 rule_is opening before m c legal plain answer =
     let a : IsAnswered opening before m = answered_for m.input opening before m refl legal.0 answer in

@@ -24,9 +24,9 @@ use Rattle.eid_model.specs.Runs.{Step, Phase, Chose, SentNonce, HasBase, HasSecr
 use Rattle.eid_model.specs.Sessions.{channel, fresh}
 use Rattle.eid_model.specs.Bodies.{data_in, key_name_in}
 use Rattle.eid_model.specs.Rules.{Incoming, NoCommand, MissingObjects, WrongObjects, OfCommand, plain_of, Situation, starts_pin, proves_pin, is_token, token_effects, to_commit}
-use Rattle.eid_model.specs.Answers.{outcome, due, kind_incoming}
+use Rattle.eid_model.specs.Answers.{outcome, due, kind_incoming, question}
 use Rattle.eid_model.specs.Ledger.{Books, account, books, state_of, books_more, books_handled, due_at, onto, tries_after, date_after, ledger, pending, kept}
-use Rattle.eid_model.specs.Legal.{silent, situation_after, answered, IsMoment, IsLegalFor, AreLegal}
+use Rattle.eid_model.specs.Legal.{AreAsked, silent, situation_after, answered, IsMoment, IsLegalFor, AreLegal}
 use Rattle.eid_model.specs.Laws.{kind_sent, is_last_step, compares_pin, refuses_pin, refused_pins, is_refill, gives_back, goes_on_with_pin}
 use Rattle.eid_model.proofs.Books.{books_at, due_incoming}
 use Rattle.eid_model.proofs.Compared.{is_compared, compared_due, token_wrong, try_held}
@@ -43,16 +43,17 @@ pub record IsAnswered (opening : FullRecord) (before : List PlainMoment) (m : Pl
   pub incoming : Incoming
   pub input : m.input ≡ Received bytes
   pub power : on before ≡ true
+  pub asked : AreAsked (λ answers. question (situation_after opening before incoming answers)) [] m.asks
   pub moment : m ≡ answered (channel (live before)) bytes incoming m.asks (length (due (at opening before incoming m))) (outcome (at opening before incoming m))
 
 not_silent : (e : Event) (m : PlainMoment) → m ≡ silent e → is_some m.answer ≡ true → ⊥
 not_silent e m is answer = let none : is_some m.answer ≡ false = ap (λ (x : PlainMoment). is_some x.answer) is in cc
 
-answered_by : (opening : FullRecord) (before : List PlainMoment) (m : PlainMoment) (bytes : List ℕ) (incoming : Incoming) (o : Option PlainReply) → m.input ≡ Received bytes → on before ≡ true → m.answer ≡ o → is_some m.answer ≡ true
+answered_by : (opening : FullRecord) (before : List PlainMoment) (m : PlainMoment) (bytes : List ℕ) (incoming : Incoming) (o : Option PlainReply) → m.input ≡ Received bytes → on before ≡ true → AreAsked (λ answers. question (situation_after opening before incoming answers)) [] m.asks → m.answer ≡ o → is_some m.answer ≡ true
     → IsMoment o (channel (live before)) bytes incoming (due (at opening before incoming m)) (outcome (at opening before incoming m)) m → IsAnswered opening before m
-answered_by opening before m bytes incoming None is power none answer moment = absurd (let gone : is_some m.answer ≡ false = ap is_some none in cc)
-answered_by opening before m bytes incoming (Some reply) is power some answer moment =
-    record { bytes = bytes; incoming = incoming; input = is; power = power; moment = moment }
+answered_by opening before m bytes incoming None is power asked none answer moment = absurd (let gone : is_some m.answer ≡ false = ap is_some none in cc)
+answered_by opening before m bytes incoming (Some reply) is power asked some answer moment =
+    record { bytes = bytes; incoming = incoming; input = is; power = power; asked = asked; moment = moment }
 
 pub answered_for : (e : Event) (opening : FullRecord) (before : List PlainMoment) (m : PlainMoment) → m.input ≡ e → IsLegalFor e opening before m → is_some m.answer ≡ true → IsAnswered opening before m
 answered_for (PoweredOn found) opening before m is legal answer = absurd (not_silent (PoweredOn found) m legal.1 answer)
@@ -61,7 +62,7 @@ answered_for (Received bytes) opening before m is legal answer = handled (on bef
   handled : (power : Bool) → on before ≡ power → IsAnswered opening before m
   handled true power =
       let p = legal.powered power in
-      answered_by opening before m bytes p.incoming m.answer is power refl answer p.moment
+      answered_by opening before m bytes p.incoming m.answer is power p.asked refl answer p.moment
   handled false power = absurd (not_silent (Received bytes) m (legal.unpowered power) answer)
 
 -- the command, the rule, and the kind

@@ -8,4 +8,5 @@ pub mod Forms
 pub mod Compared
 pub mod Laws
 pub mod Access
+pub mod Comparisons
 pub mod KeyNames

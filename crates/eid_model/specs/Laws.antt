@@ -7,7 +7,7 @@ use Rattle.eid_bits.specs.Date.{is_between}
 use Rattle.eid_record.specs.Plain.{FullRecord, PlainEffect, Spend, Refill, Unblock, SetPin, SetCan, Active, Advance, Write}
 use Rattle.eid_password.specs.Passwords.{is_pin}
 use Rattle.eid_model.specs.declared.kind.Kind.{Kind}
-use Rattle.eid_model.specs.declared.kind.Kind.TheVariants.{MutualAuthentication, ReadBinary}
+use Rattle.eid_model.specs.declared.kind.Kind.TheVariants.{MutualAuthentication, ReadBinary, VerifyAuxiliary}
 use Rattle.eid_model.specs.Kinds.{same_kind, kind_named}
 use Rattle.eid_model.specs.Moments.{PlainMoment, live}
 use Rattle.eid_model.specs.Chains.{request_of}
@@ -15,7 +15,10 @@ use Rattle.eid_model.specs.Sessions.{State}
 use Rattle.eid_model.specs.Answers.{rules_before}
 use Rattle.eid_model.specs.Legal.{situation_after}
 use Rattle.eid_model.specs.Runs.{answers_of, run, next, Phase, Idle, Chose, SentNonce, HasBase, HasSecret, ChoseKey, phase}
-use Rattle.eid_model.specs.Rules.{OfCommand, RuleRow, Situation, answer_rules, chain_gave, commit_rules, concerns, file_meant, group_of, holder_gave, is_of, proof_rules, proves_pin}
+use Rattle.eid_model.specs.declared.comparison.Comparison.{Comparison}
+use Rattle.eid_model.specs.declared.comparison.Comparison.TheVariants.{Age, Validity, Community}
+use Rattle.eid_model.specs.Auxiliary.{comparison_in}
+use Rattle.eid_model.specs.Rules.{AGE_VERIFICATION, COMMUNITY_VERIFICATION, OfCommand, RuleRow, Situation, answer_rules, chain_gave, commit_rules, concerns, file_meant, group_of, holder_gave, is_of, proof_rules, proves_pin}
 
 -- the kind of the request that ended with the newest moment, whether it was carried out or not
 abbrev pub kind_sent : PlainMoment → List PlainMoment → Option Kind
@@ -103,3 +106,34 @@ is_kept s row = not (concerns row.kinds s.kind) || row.holds s
 -- all other rules that concern the kind hold
 abbrev pub others_hold : Situation → Bool
 others_hold s = list_all (λ row. is_on_access row.number || is_kept s row) all_rules
+
+-- ---- comparisons of auxiliary data
+
+-- the comparison that a VERIFY asks for
+abbrev pub comparison_asked : Situation → Option Comparison
+comparison_asked s = if is_of VerifyAuxiliary s.kind then comparison_in s.command.body else None
+
+-- a comparison is answered by yes, or by no: that is rule 36
+abbrev pub is_compared_by : ℕ → Bool
+is_compared_by rule = rule == 0 || rule == 36
+
+-- the right stands in the template that the holder gave, and in those of the trust point, the document verifier and the terminal
+abbrev pub HasRight : State → ℕ → Type 0
+HasRight s bit = (holder_gave s.pace bit ≡ true) × (chain_gave s.certificates bit ≡ true)
+
+-- the right that a comparison takes; that of the validity takes none
+abbrev pub HasItsRight : State → Comparison → Type 0
+HasItsRight s Age = HasRight s AGE_VERIFICATION
+HasItsRight s Validity = Unit {0}
+HasItsRight s Community = HasRight s COMMUNITY_VERIFICATION
+
+-- The session has completed PACE, terminal authentication and chip authentication, and the comparison's right is there.
+pub record IsServed (s : State) (comparison : Comparison) : Type 0 where
+  pub pace : is_some s.pace ≡ true
+  pub terminal : is_some s.terminal ≡ true
+  pub chip : s.chip_proven ≡ true
+  pub right : HasItsRight s comparison
+
+-- all other rules that concern the kind hold, but that the comparison is a yes
+abbrev pub others_hold_but_36 : Situation → Bool
+others_hold_but_36 s = list_all (λ row. is_on_access row.number || row.number == 36 || is_kept s row) all_rules

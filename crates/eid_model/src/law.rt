@@ -10,7 +10,8 @@ ghost use Rattle.eid_model.specs.Runs.{run, phase};
 ghost use Rattle.eid_model.specs.Sessions.{fresh};
 ghost use Rattle.eid_model.specs.Legal.{AreLegal};
 ghost use Rattle.eid_model.specs.Ledger.{ledger, kept, state_of};
-ghost use Rattle.eid_model.specs.Laws.{compares_pin, refused_pins, gives_back, goes_on_with_pin, IsAuthorised, group_read, others_hold, sent_at};
+ghost use Rattle.eid_model.specs.Laws.{compares_pin, refused_pins, gives_back, goes_on_with_pin, IsAuthorised, IsServed, comparison_asked, group_read, is_compared_by, others_hold, others_hold_but_36, sent_at};
+ghost use Rattle.eid_model.specs.declared.comparison.Comparison.{Comparison};
 ghost use Rattle.eid_model.specs.Rules.{is_granted, reading};
 ghost use Rattle.eid_model.specs.Bodies.{NamesKey, authentication_data, data_in, holds_value, key_name_in};
 
@@ -33,11 +34,18 @@ pub fn law_fresh()
 
 /// A data group is answered exactly where this session has completed PACE, terminal authentication and chip authentication, the
 /// right to read it stands in the template that the holder gave in that PACE and in those of the trust point, the document
-/// verifier and the terminal, and all other rules on a READ BINARY hold.
+/// verifier and the terminal, and all other rules on a READ BINARY hold. A comparison is answered, by yes or by no, exactly where
+/// the session has completed these, the right that it takes, if it takes one, stands in these templates, and all other rules
+/// on a VERIFY hold but that it is a yes.
 pub fn law_access()
-    ensures { (opening : FullRecord) (m : PlainMoment) (before : List PlainMoment) (c : PlainCommand) (group : ℕ)
+    ensures group { (opening : FullRecord) (m : PlainMoment) (before : List PlainMoment) (c : PlainCommand) (group : ℕ)
         → AreLegal opening (m ∷ before) → m.plain ≡ Some c → is_some m.answer ≡ true → group_read (sent_at opening before c m) ≡ Some group
         → m.rule ≡ 0 ↔ (IsAuthorised (sent_at opening before c m).state (reading group) × (others_hold (sent_at opening before c m) ≡ true)) }
+    ensures comparison { (opening : FullRecord) (m : PlainMoment) (before : List PlainMoment) (c : PlainCommand) (comparison : Comparison)
+        → AreLegal opening (m ∷ before) → m.plain ≡ Some c → is_some m.answer ≡ true
+        → comparison_asked (sent_at opening before c m) ≡ Some comparison
+        → (is_compared_by m.rule ≡ true)
+        ↔ (IsServed (sent_at opening before c m).state comparison × (others_hold_but_36 (sent_at opening before c m) ≡ true)) }
 {}
 
 /// Each token of the PIN costs a try first: where a moment compared one, rightly or not, its Spend is the first effect that
