@@ -18,7 +18,7 @@ use Rattle.eid_store.specs.Stands.{stands}
 use Rattle.eid_pace.specs.States.{PlainDone}
 use Rattle.eid_sm.specs.Keys.{Keys, ChannelState, next_counter}
 use Rattle.eid_model.specs.declared.kind.Kind.{Kind}
-use Rattle.eid_model.specs.declared.kind.Kind.TheVariants.{SelectApplication, SelectMasterFile, SelectFile, ReadBinary, UpdateBinary, SelectPace, SelectPublicKey, VerifyCertificate, AnnounceTerminal, GetChallenge, ExternalAuthenticate, SelectChipAuthentication, EncryptedNonce, MapNonce, PerformKeyAgreement, MutualAuthentication, AuthenticateChip, ChangePin, UnblockPin, ChangeCan, ActivatePin, DeactivatePin, VerifyAuxiliary, NoProtocol, NoStep}
+use Rattle.eid_model.specs.declared.kind.Kind.TheVariants.{SelectApplication, SelectMasterFile, SelectFile, ReadBinary, UpdateBinary, SelectPace, SelectPublicKey, VerifyCertificate, AnnounceTerminal, GetChallenge, ExternalAuthenticate, SelectChipAuthentication, SelectRestrictedIdentification, EncryptedNonce, MapNonce, PerformKeyAgreement, MutualAuthentication, AuthenticateChip, PerformRestrictedIdentification, VerifyAuxiliary, ChangePin, UnblockPin, ChangeCan, ActivatePin, DeactivatePin, NoProtocol, NoStep}
 use Rattle.eid_model.specs.Kinds.{kind_in_table, step_after}
 use Rattle.eid_model.specs.Chains.{chain_of, chaining, more_pieces, pieces, request_of}
 use Rattle.eid_model.specs.Moments.{PlainMoment, on, live, ends_session_by}
@@ -81,18 +81,20 @@ run_next AnnounceTerminal c answers steps = refl
 run_next GetChallenge c answers steps = refl
 run_next ExternalAuthenticate c answers steps = refl
 run_next SelectChipAuthentication c answers steps = refl
+run_next SelectRestrictedIdentification c answers steps = refl
 run_next AuthenticateChip c answers steps = refl
+run_next PerformRestrictedIdentification c answers steps = refl
 run_next NoProtocol c answers steps = refl
 run_next EncryptedNonce c answers steps = refl
 run_next MapNonce c answers steps = refl
 run_next PerformKeyAgreement c answers steps = refl
 run_next MutualAuthentication c answers steps = refl
+run_next VerifyAuxiliary c answers steps = refl
 run_next ChangePin c answers steps = refl
 run_next UnblockPin c answers steps = refl
 run_next ChangeCan c answers steps = refl
 run_next ActivatePin c answers steps = refl
 run_next DeactivatePin c answers steps = refl
-run_next VerifyAuxiliary c answers steps = refl
 run_next NoStep c answers steps = refl
 
 run_phase : (kind : Kind) (c : PlainCommand) (answers : List Answer) (steps : List Step) → phase (continued (Some kind) (Some c) answers steps) ≡ entered kind c answers (phase steps)
@@ -109,18 +111,20 @@ run_phase AnnounceTerminal c answers steps = refl
 run_phase GetChallenge c answers steps = refl
 run_phase ExternalAuthenticate c answers steps = refl
 run_phase SelectChipAuthentication c answers steps = refl
+run_phase SelectRestrictedIdentification c answers steps = refl
 run_phase AuthenticateChip c answers steps = refl
+run_phase PerformRestrictedIdentification c answers steps = refl
 run_phase NoProtocol c answers steps = refl
 run_phase EncryptedNonce c answers steps = refl
 run_phase MapNonce c answers steps = refl
 run_phase PerformKeyAgreement c answers steps = refl
 run_phase MutualAuthentication c answers steps = refl
+run_phase VerifyAuxiliary c answers steps = refl
 run_phase ChangePin c answers steps = refl
 run_phase UnblockPin c answers steps = refl
 run_phase ChangeCan c answers steps = refl
 run_phase ActivatePin c answers steps = refl
 run_phase DeactivatePin c answers steps = refl
-run_phase VerifyAuxiliary c answers steps = refl
 run_phase NoStep c answers steps = refl
 
 -- ---- the certificates
@@ -156,17 +160,19 @@ run_claim AnnounceTerminal kept c answers last before terminal p steps = refl
 run_claim GetChallenge kept c answers last before terminal p steps = refl
 run_claim ExternalAuthenticate kept c answers last before terminal p steps = refl
 run_claim SelectChipAuthentication kept c answers last before terminal p steps = refl
+run_claim SelectRestrictedIdentification kept c answers last before terminal p steps = refl
 run_claim EncryptedNonce kept c answers last before terminal p steps = refl
 run_claim MapNonce kept c answers last before terminal p steps = refl
 run_claim PerformKeyAgreement kept c answers last before terminal p steps = refl
 run_claim MutualAuthentication kept c answers last before terminal p steps = refl
 run_claim AuthenticateChip kept c answers last before terminal p steps = refl
+run_claim PerformRestrictedIdentification kept c answers last before terminal p steps = refl
+run_claim VerifyAuxiliary kept c answers last before terminal p steps = refl
 run_claim ChangePin kept c answers last before terminal p steps = refl
 run_claim UnblockPin kept c answers last before terminal p steps = refl
 run_claim ChangeCan kept c answers last before terminal p steps = refl
 run_claim ActivatePin kept c answers last before terminal p steps = refl
 run_claim DeactivatePin kept c answers last before terminal p steps = refl
-run_claim VerifyAuxiliary kept c answers last before terminal p steps = refl
 run_claim NoProtocol kept c answers last before terminal p steps = refl
 run_claim NoStep kept c answers last before terminal p steps = refl
 

@@ -11,6 +11,7 @@ pub mod RightSteps
 pub mod ReadSteps
 pub mod UpdateSteps
 pub mod VerifySteps
+pub mod SectorSteps
 pub mod Refusals
 pub mod Commits
 pub mod PinSteps

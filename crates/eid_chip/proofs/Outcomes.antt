@@ -147,7 +147,7 @@ command_rule kept old c answers o is =
     let later = naming_rules ++ request_rules ++ kind_rules ++ answer_rules ++ commit_rules ++ proof_rules in
     let found : first_failed (transport_rules ++ later) s ≡ first_failed later s = passed transport_rules later s refl in
     ap (λ (x : Outcome). is_on_objects x.rule) (sym is) ∙ ap (λ (f : Option RuleRow). is_on_objects (outcome_by f s).rule) found
-    ∙ others_fail later s (refl, (refl, (refl, (refl, (refl, (refl, (refl, (refl, (refl, (refl, (refl, (refl, (refl, (refl, (refl, (refl, (refl, (refl, (refl, (refl, (refl, (refl, (refl, (refl, (refl, (refl, (refl, (refl, (refl, (refl, (refl, (refl, (refl, (refl, (refl, (refl, (refl, (refl, (refl, (refl, (refl, (refl, (refl, (refl, (refl, _)))))))))))))))))))))))))))))))))))))))))))))
+    ∙ others_fail later s (refl, (refl, (refl, (refl, (refl, (refl, (refl, (refl, (refl, (refl, (refl, (refl, (refl, (refl, (refl, (refl, (refl, (refl, (refl, (refl, (refl, (refl, (refl, (refl, (refl, (refl, (refl, (refl, (refl, (refl, (refl, (refl, (refl, (refl, (refl, (refl, (refl, (refl, (refl, (refl, (refl, (refl, (refl, (refl, (refl, (refl, _))))))))))))))))))))))))))))))))))))))))))))))
 
 pub command_answered : (old : State) (c : PlainCommand) (asks : List Ask) (ending : Ending) (reply : PlainReply) (left : Option OpenChain) (before after : World) → IsEndedByRules old (OfCommand c) asks ending reply left before after → is_on_objects (rule_of ending) ≡ false
 command_answered old c asks (Answered r finished) reply left before after did = command_rule (held before.cells) old c (answers_of asks) (outcome_seen r reply) did.ended.1

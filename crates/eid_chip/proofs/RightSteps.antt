@@ -9,14 +9,16 @@ use Rattle.eid_model.specs.declared.comparison.Comparison.{Comparison}
 use Rattle.eid_model.specs.declared.comparison.Comparison.TheVariants.{Age, Validity, Community}
 use Rattle.eid_apdu.specs.Command.{PlainCommand}
 use Rattle.eid_bits.specs.Date.{is_between}
+use Rattle.eid_bits.specs.declared.identifier.Known.TheVariants.{RiSha256}
+use Rattle.eid_ca.specs.Selections.{names}
 use Rattle.eid_record.specs.Plain.{FullRecord}
 use Rattle.eid_password.specs.Passwords.{is_pin, is_puk}
 use Rattle.eid_sm.specs.Keys.{ChannelState}
-use Rattle.eid_model.specs.declared.kind.Kind.TheVariants.{ReadBinary, UpdateBinary, ChangeCan, VerifyAuxiliary}
+use Rattle.eid_model.specs.declared.kind.Kind.TheVariants.{ReadBinary, UpdateBinary, SelectRestrictedIdentification, VerifyAuxiliary, ChangeCan}
 use Rattle.eid_model.specs.Kinds.{is_by_short}
 use Rattle.eid_model.specs.Sessions.{State}
-use Rattle.eid_model.specs.Rules.{AGE_VERIFICATION, COMMUNITY_VERIFICATION, PIN_MANAGEMENT, file_meant, group_of, is_by_holder, is_card_access, is_formed, is_granted, kind_rules, manages_pin, may_compare, reading, was_with, writing}
-use Rattle.eid_chip.specs.Granting.{activation, change_refused, comparing_refused, file_refused, manager_refused, of_memory, reading_refused, refusal_in, refusal_of, sent_refused, terminal_refused, unblocking_refused, verdict_refused, writing_refused}
+use Rattle.eid_model.specs.Rules.{AGE_VERIFICATION, COMMUNITY_VERIFICATION, PIN_MANAGEMENT, RESTRICTED_IDENTIFICATION, file_meant, group_of, is_by_holder, is_card_access, is_formed, is_granted, kind_rules, manages_pin, may_compare, reading, was_with, writing}
+use Rattle.eid_chip.specs.Granting.{activation, change_refused, comparing_refused, file_refused, identification_refused, manager_refused, of_memory, reading_refused, refusal_in, refusal_of, sent_refused, terminal_refused, unblocking_refused, verdict_refused, writing_refused}
 use Rattle.eid_chip.specs.States.{state}
 use Rattle.eid_chip.specs.Steps.{PlainRefusal, known, refusal, refusal_by}
 use Rattle.eid_chip.specs.declared.refusal.Refusal.{Refusal}
@@ -48,6 +50,9 @@ writing_at session channel file = rw (file_at session channel (writing (group_of
 
 pub manager_at : (session : Session) (channel : Option ChannelState) → manager_refused (of_memory session.memory) ≡ manager_refused (state session channel)
 manager_at session channel = rw (holder_at session channel, granted_at session channel PIN_MANAGEMENT) refl
+
+pub identification_at : (session : Session) (channel : Option ChannelState) → identification_refused (of_memory session.memory) ≡ identification_refused (state session channel)
+identification_at session channel = rw (file_at session channel RESTRICTED_IDENTIFICATION) refl
 
 pub change_at : (session : Session) (channel : Option ChannelState) → change_refused (of_memory session.memory) ≡ change_refused (state session channel)
 change_at session channel = rw (manages_at session channel) refl
@@ -124,6 +129,21 @@ activation_fails active kept old c refused empty e = by active (is_some old.pace
   by false true true true false r ip it ic ih ir = rw (empty, ip, it, ih, ic) (rw (ip, it, ih, ic) at e)
   by false true true true true false ip it ic ih ir = rw (empty, ip, it, ih, ir, ic) (rw (ip, it, ih, ir, ic) at e)
   by active true true true true true ip it ic ih ir = absurd (let none = rw (ip, it, ih, ir, ic) at e in cc)
+
+-- ---- to begin restricted identification
+
+pub identification_fails : (kept : FullRecord) (old : State) (c : PlainCommand) (refused : PlainRefusal) → names RiSha256 c.body ≡ true → identification_refused old ≡ Some refused
+    → refusal_by kind_rules (known SelectRestrictedIdentification kept old c []) ≡ Some refused
+identification_fails kept old c refused formed e = by (is_some old.pace) (is_some old.terminal) old.chip_proven (is_by_holder old) old.selected (is_granted old RESTRICTED_IDENTIFICATION) refl refl refl refl refl refl where
+  by : (pace terminal chip holder selected granted : Bool) → is_some old.pace ≡ pace → is_some old.terminal ≡ terminal → old.chip_proven ≡ chip → is_by_holder old ≡ holder → old.selected ≡ selected
+      → is_granted old RESTRICTED_IDENTIFICATION ≡ granted → refusal_by kind_rules (known SelectRestrictedIdentification kept old c []) ≡ Some refused
+  by false t ch h s r ip it ic ih is ir = rw (formed, ip) (rw ip at e)
+  by true false ch h s r ip it ic ih is ir = rw (formed, ip, it) (rw (ip, it) at e)
+  by true true false h s r ip it ic ih is ir = rw (formed, ip, it, ic) (rw (ip, it, ic) at e)
+  by true true true false s r ip it ic ih is ir = rw (formed, ip, it, ih, ic) (rw (ip, it, ih, ic) at e)
+  by true true true true false r ip it ic ih is ir = rw (formed, ip, it, ih, is, ic) (rw (ip, it, ih, is, ic) at e)
+  by true true true true true false ip it ic ih is ir = rw (formed, ip, it, ih, ir, is, ic) (rw (ip, it, ih, ir, is, ic) at e)
+  by true true true true true true ip it ic ih is ir = absurd (let none = rw (ip, it, ih, ir, is, ic) at e in cc)
 
 -- ---- to compare
 
@@ -204,6 +224,11 @@ if_none : (b : Bool) (rule status : ℕ) (later : Option PlainRefusal) → (if n
 if_none true rule status later e = (refl, e)
 if_none false rule status later e = absurd (cc)
 
+pub identification_served : (s : State) → identification_refused s ≡ None → (is_some s.pace ≡ true) × (IsServed s RESTRICTED_IDENTIFICATION × (s.selected ≡ true))
+identification_served s e =
+    let both = if_none (is_some s.pace) 20 0x6982 (file_refused s RESTRICTED_IDENTIFICATION) e in
+    (both.0, file_served s RESTRICTED_IDENTIFICATION both.1)
+
 pub writing_served : (s : State) (file : ℕ) → writing_refused s file ≡ None → (is_some s.pace ≡ true) × (IsServed s (writing (group_of file)) × (s.selected ≡ true))
 writing_served s file e =
     let both = if_none (is_some s.pace) 20 0x6982 (file_refused s (writing (group_of file))) e in
@@ -269,6 +294,9 @@ pub manager_rules : (s : State) → AreRules (manager_refused s)
 manager_rules s =
     if_rules (not (is_some s.pace)) 20 0x6982 _ refl
     (or_rules (terminal_refused s) _ (terminal_rules s) (if_rules (not (is_granted s PIN_MANAGEMENT)) 33 0x6982 None refl tt))
+
+pub identification_rules : (s : State) → AreRules (identification_refused s)
+identification_rules s = if_rules (not (is_some s.pace)) 20 0x6982 _ refl (file_rules s RESTRICTED_IDENTIFICATION)
 
 pub change_rules : (s : State) → AreRules (change_refused s)
 change_rules s =

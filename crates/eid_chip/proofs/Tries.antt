@@ -48,6 +48,7 @@ phase_tries (runs.KeyChosen name) = refl
 phase_tries (runs.Announced identity announced) = refl
 phase_tries (runs.Challenged identity challenged) = refl
 phase_tries (runs.CaChosen chosen) = refl
+phase_tries runs.RiChosen = refl
 
 -- What was answered where the PACE goes on: a request was carried out that goes on, or a fragment taken.
 record Continued (rule : ℕ) (kind : Option Kind) (before : Phase) : Type 0 where

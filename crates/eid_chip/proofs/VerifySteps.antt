@@ -1,11 +1,12 @@
 -- A VERIFY of auxiliary data: what refuses it, and that it fails no rule else.
-use Rattle.std.proofs.Common.{◌≡◌, List, [], ◌++◌, ℕ, Option, None, Some, refl}
-use Rattle.std.specs.Prelude.{slice_index_or}
+use Rattle.std.proofs.Common.{◌≡◌, ap, List, [], ◌++◌, ℕ, Option, None, Some, refl}
+use Rattle.std.specs.Prelude.{slice_index_or, unwrap_or}
 use Rattle.eid_apdu.specs.Command.{PlainCommand}
 use Rattle.eid_aux.specs.declared.compared.Compared.{Compared}
 use Rattle.eid_aux.specs.declared.compared.Compared.TheVariants.{Yes, No, NoReference}
 use Rattle.eid_record.specs.Plain.{FullRecord, PlainRecord}
 use Rattle.eid_model.specs.declared.comparison.Comparison.{Comparison}
+use Rattle.eid_model.specs.declared.comparison.Comparison.TheVariants.{Age, Validity, Community}
 use Rattle.eid_model.specs.declared.kind.Kind.TheVariants.{VerifyAuxiliary}
 use Rattle.eid_model.specs.Auxiliary.{compared_to, comparison_in, reference_file, sent_by}
 use Rattle.eid_model.specs.Runs.{entered, claimed}
@@ -59,3 +60,14 @@ compared_passes kept old c comparison formed served e = by (sent_by old.terminal
 pub verify_leaves : (kept : PlainRecord) (old : State) (c : PlainCommand) → state_refused old ≡ state_carried_out kept VerifyAuxiliary c [] old
 unfolding entered claimed
 verify_leaves kept old c = refl
+
+-- an absent file is no reference, and an empty one is none either
+compared_empty : (comparison : Comparison) (sent : List ℕ) → compared_to comparison (Some []) sent ≡ compared_to comparison None sent
+compared_empty Age sent = refl
+compared_empty Validity sent = refl
+compared_empty Community sent = refl
+
+pub absent_as_empty : (comparison : Comparison) (stored sent : Option (List ℕ)) → sent_refused comparison (Some (unwrap_or stored [])) sent ≡ sent_refused comparison stored sent
+absent_as_empty comparison (Some stored) sent = refl
+absent_as_empty comparison None None = refl
+absent_as_empty comparison None (Some sent) = ap verdict_refused (compared_empty comparison sent)

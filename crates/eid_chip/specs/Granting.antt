@@ -12,7 +12,7 @@ use Rattle.eid_model.specs.declared.comparison.Comparison.{Comparison}
 use Rattle.eid_model.specs.declared.kind.Kind.{Kind}
 use Rattle.eid_model.specs.declared.kind.Kind.TheVariants.{ActivatePin, DeactivatePin}
 use Rattle.eid_password.specs.Passwords.{is_pin, is_puk}
-use Rattle.eid_model.specs.Rules.{PIN_MANAGEMENT, chain_gave, group_of, holder_gave, is_by_holder, is_card_access, is_data_group, is_granted, manages_pin, may_compare, reading, was_with, writing}
+use Rattle.eid_model.specs.Rules.{PIN_MANAGEMENT, RESTRICTED_IDENTIFICATION, chain_gave, group_of, holder_gave, is_by_holder, is_card_access, is_group_file, is_granted, manages_pin, may_compare, reading, was_with, writing}
 use Rattle.eid_model.specs.Sessions.{State}
 use Rattle.eid_chip.specs.declared.refusal.Refusal.{Refusal}
 use Rattle.eid_chip.specs.declared.session.Memory.{Memory}
@@ -59,7 +59,7 @@ file_refused s bit =
 abbrev pub reading_refused : State → ℕ → Option PlainRefusal
 reading_refused s file =
     if not (is_card_access (Some file) || is_some s.pace) then refusal_of 20 0x6982
-    else if is_data_group (Some file) then file_refused s (reading (group_of file)) else None
+    else if is_group_file (Some file) then file_refused s (reading (group_of file)) else None
 
 -- to write one: PACE, and those rules
 abbrev pub writing_refused : State → ℕ → Option PlainRefusal
@@ -71,6 +71,10 @@ comparing_refused s comparison =
     if not (is_some s.pace) then refusal_of 20 0x6982
     else option_or (terminal_refused s)
     (if not s.selected then refusal_of 32 0x6985 else if not (may_compare s (Some comparison)) then refusal_of 33 0x6982 else None)
+
+-- to begin restricted identification: PACE, and what refuses a file, with that right
+abbrev pub identification_refused : State → Option PlainRefusal
+identification_refused s = if not (is_some s.pace) then refusal_of 20 0x6982 else file_refused s RESTRICTED_IDENTIFICATION
 
 -- by what was compared: no reference, or no
 abbrev pub verdict_refused : Compared → Option PlainRefusal

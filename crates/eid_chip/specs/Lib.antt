@@ -8,3 +8,4 @@ pub mod Commits
 pub mod Worlds
 pub mod Naming
 pub mod Granting
+pub mod SectorEnds

@@ -5,9 +5,10 @@ use Rattle.eid_apdu.specs.Command.{PlainCommand}
 use Rattle.eid_apdu.specs.Chaining.{is_fragment}
 use Rattle.eid_copro.specs.declared.ask.Answer.{Answer}
 use Rattle.eid_record.specs.Plain.{FullRecord}
-use Rattle.eid_ca.specs.Selections.{chosen_in}
+use Rattle.eid_bits.specs.declared.identifier.Known.TheVariants.{RiSha256}
+use Rattle.eid_ca.specs.Selections.{chosen_in, names}
 use Rattle.eid_model.specs.declared.kind.Kind.{Kind}
-use Rattle.eid_model.specs.declared.kind.Kind.TheVariants.{SelectChipAuthentication, NoProtocol}
+use Rattle.eid_model.specs.declared.kind.Kind.TheVariants.{SelectChipAuthentication, SelectRestrictedIdentification, NoProtocol}
 use Rattle.eid_model.specs.Kinds.{goes_on_in_run, kind_named}
 use Rattle.eid_model.specs.Moments.{ends_session_by}
 use Rattle.eid_model.specs.Rules.{naming_rules}
@@ -24,7 +25,8 @@ use Rattle.eid_chip.specs.Steps.{refusal, refusal_by, with_command}
 -- the kind of a request with this body
 abbrev pub kind_by : Last → List ℕ → Kind
 kind_by (Of kind) body = kind
-kind_by ByProtocol body = if is_some (chosen_in body) then SelectChipAuthentication else NoProtocol
+kind_by ByProtocol body =
+    if is_some (chosen_in body) then SelectChipAuthentication else if names RiSha256 body then SelectRestrictedIdentification else NoProtocol
 
 -- the command with this body
 abbrev pub with_body : PlainCommand → List ℕ → PlainCommand

@@ -6,7 +6,7 @@ use Rattle.eid_cvc.specs.Chains.{chain_view, known_view}
 use Rattle.eid_pace.specs.View.{chosen_view, nonce_sent_view, mapped_view, agreed_view}
 use Rattle.eid_sm.specs.Keys.{ChannelState}
 use Rattle.eid_model.specs.declared.kind.Kind.{Kind}
-use Rattle.eid_model.specs.declared.kind.Kind.TheVariants.{VerifyCertificate, GetChallenge, ExternalAuthenticate, EncryptedNonce, MapNonce, PerformKeyAgreement, MutualAuthentication, AuthenticateChip}
+use Rattle.eid_model.specs.declared.kind.Kind.TheVariants.{VerifyCertificate, GetChallenge, ExternalAuthenticate, EncryptedNonce, MapNonce, PerformKeyAgreement, MutualAuthentication, AuthenticateChip, PerformRestrictedIdentification}
 use Rattle.eid_ta.specs.View.{announced_view, challenged_view}
 use Rattle.eid_ca.specs.View.{chosen_view as chip_chosen_view}
 use Rattle.eid_model.specs.Runs.{Phase, Idle, Chose, SentNonce, HasBase, HasSecret, ChoseKey, Authentication, NotBegun, Announced, Challenged, ChoseProtocol}
@@ -29,6 +29,7 @@ next_of (runs.KeyChosen name) = Some VerifyCertificate
 next_of (runs.Announced identity announced) = Some GetChallenge
 next_of (runs.Challenged identity challenged) = Some ExternalAuthenticate
 next_of (runs.CaChosen chosen) = Some AuthenticateChip
+next_of runs.RiChosen = Some PerformRestrictedIdentification
 
 abbrev pub phase_of : Run → Phase
 phase_of runs.Idle = Idle
@@ -40,6 +41,7 @@ phase_of (runs.KeyChosen name) = ChoseKey name.items
 phase_of (runs.Announced identity announced) = Idle
 phase_of (runs.Challenged identity challenged) = Idle
 phase_of (runs.CaChosen chosen) = Idle
+phase_of runs.RiChosen = Idle
 
 abbrev pub authentication_of : Run → Authentication
 authentication_of runs.Idle = NotBegun
@@ -51,6 +53,7 @@ authentication_of (runs.KeyChosen name) = NotBegun
 authentication_of (runs.Announced identity announced) = Announced identity (announced_view announced)
 authentication_of (runs.Challenged identity challenged) = Challenged identity (challenged_view challenged)
 authentication_of (runs.CaChosen chosen) = ChoseProtocol (chip_chosen_view chosen)
+authentication_of runs.RiChosen = NotBegun
 
 -- what is kept of a PACE
 abbrev pub memory : LastPace → PaceMemory

@@ -18,6 +18,7 @@ tries_pin (runs.KeyChosen name) = false
 tries_pin (runs.Announced identity announced) = false
 tries_pin (runs.Challenged identity challenged) = false
 tries_pin (runs.CaChosen chosen) = false
+tries_pin runs.RiChosen = false
 
 -- where it has, a try is left
 abbrev pub IsTryLeft : Run → PlainRecord → Type 0

@@ -41,6 +41,9 @@ use crate::reaction::{Ending, Reaction, Response};
 use crate::refusal::{
     BODY_FORM, BROKEN_CHAIN, LONG_REQUEST, NO_COMMAND, NO_OBJECTS, NO_STEP, WRONG_OBJECTS,
 };
+use crate::restricted_identification::{
+    perform_restricted_identification, select_restricted_identification,
+};
 use crate::running::Running;
 use crate::select::{read_binary, select_application, select_file, select_master_file};
 use crate::session::{Run, Session};
@@ -111,6 +114,9 @@ fn perform<E: Eeprom, C: Coprocessor>(
         Kind::SelectChipAuthentication => {
             uncommitted(select_chip_authentication(session, c, reply))
         }
+        Kind::SelectRestrictedIdentification => {
+            uncommitted(select_restricted_identification(session, c, reply))
+        }
         Kind::EncryptedNonce => {
             uncommitted(encrypted_nonce(session, store, cells, copro, c, reply))
         }
@@ -122,12 +128,19 @@ fn perform<E: Eeprom, C: Coprocessor>(
         Kind::AuthenticateChip => {
             uncommitted(authenticate_chip(session, store.kept(), copro, c, reply))
         }
+        Kind::PerformRestrictedIdentification => uncommitted(perform_restricted_identification(
+            session,
+            store.kept(),
+            copro,
+            c,
+            reply,
+        )),
+        Kind::VerifyAuxiliary => uncommitted(verify_auxiliary(session, store, cells, c, reply)),
         Kind::ChangePin => change_pin(session, store, cells, c, reply),
         Kind::UnblockPin => unblock_pin(session, store, cells, c, reply),
         Kind::ChangeCan => change_can(session, store, cells, c, reply),
         Kind::ActivatePin => set_active(true, session, store, cells, c, reply),
         Kind::DeactivatePin => set_active(false, session, store, cells, c, reply),
-        Kind::VerifyAuxiliary => uncommitted(verify_auxiliary(session, store, cells, c, reply)),
         Kind::NoProtocol => uncommitted(refused(BODY_FORM, session, reply)),
         Kind::NoStep => uncommitted(refused(NO_STEP, session, reply)),
     }
@@ -161,6 +174,7 @@ fn is_piece_of_next(run: &Run, c: &Command<'_>) -> bool
         Run::Announced { .. } => false,
         Run::Challenged { .. } => false,
         Run::CaChosen(_) => false,
+        Run::RiChosen => false,
         Run::KeyChosen(_) => c.ins == 0x2a && u16::from(c.p1) * 256 + u16::from(c.p2) == 0x00be,
     }
 }

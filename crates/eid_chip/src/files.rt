@@ -1,5 +1,5 @@
 //! The bytes of files (BSI TR-03110-3 and -4).
-ghost use Rattle.std.specs.Prelude.{◌≡◌, ◌+◌, ◌≤◌, [], None, Some, option_map, unwrap_or, length, IfSome, IsSomeAnd, slice_index_or, slice_range, if◌then◌else◌};
+ghost use Rattle.std.specs.Prelude.{◌≡◌, ◌+◌, ◌≤◌, [], None, option_map, unwrap_or, length, IfSome, IsSomeAnd, slice_index_or, slice_range};
 ghost use Rattle.arrayvec.specs.ArrayVec.{array_vec_len};
 ghost use Rattle.eid_record.specs.View.{record_view};
 ghost use Rattle.eid_store.specs.Store as stored;
@@ -110,19 +110,18 @@ pub fn put_answer<E: Eeprom>(
     reply.status = status;
 }
 
-/// Makes the whole file the content of a reply, where it is there.
+/// Makes the whole file the content of a reply, or nothing where it is absent.
 pub fn put_file<E: Eeprom>(
     store: &Store,
     cells: &E,
     file: FileNo,
     content: &mut ArrayVec<u8, MAX_CONTENT>,
-) -> bool
+)
     requires fits { stored.Fits store.now (E.device cells.now) (E.cells cells.now) }
-    ensures { held_file (E.cells cells.now) file.0 ≡ (if result then Some content.new.items else None) }
+    ensures { content.new.items ≡ unwrap_or (held_file (E.cells cells.now) file.0) [] }
 {
-    let Some(length) = file_length(store, cells, file) else {
-        return false;
-    };
-    put_content(store, cells, file, 0, usize::from(length), content);
-    true
+    match file_length(store, cells, file) {
+        Some(length) => put_content(store, cells, file, 0, usize::from(length), content),
+        None => content.clear(),
+    }
 }

@@ -13,6 +13,7 @@ mod pace;
 mod pin;
 mod reaction;
 mod refusal;
+mod restricted_identification;
 mod rights;
 mod running;
 mod select;

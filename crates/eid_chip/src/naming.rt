@@ -11,6 +11,7 @@ use crate::session::Run;
 use eid_apdu::Command;
 use eid_ca::names_chip_authentication;
 use eid_model::Kind;
+use eid_ri::names_restricted_identification;
 
 /// What a command is of its request.
 #[derive(Clone, Copy)]
@@ -26,7 +27,7 @@ pub enum Named {
 pub enum Last {
     /// This one.
     Of(Kind),
-    /// Chip authentication where the request names a protocol of it.
+    /// Chip authentication or restricted identification, of which the request names a protocol.
     ByProtocol,
 }
 
@@ -39,6 +40,8 @@ pub fn kind_of(last: Last, body: &[u8]) -> Kind
         Last::ByProtocol => {
             if names_chip_authentication(body) {
                 Kind::SelectChipAuthentication
+            } else if names_restricted_identification(body) {
+                Kind::SelectRestrictedIdentification
             } else {
                 Kind::NoProtocol
             }
@@ -74,7 +77,8 @@ fn pin_management(c: &Command<'_>, run: &Run) -> Result<Named, Refusal>
     }
 }
 
-/// The kind of a GENERAL AUTHENTICATE with class 00: the last step of PACE, where it is next.
+/// The kind of a GENERAL AUTHENTICATE with class 00: the last step of PACE, or the one of chip authentication or of
+/// restricted identification, where it is next.
 fn last_step(c: &Command<'_>, run: &Run) -> Kind
     requires { (c.now.cla ≡ 0x00) × (c.now.ins ≡ 0x86) × (c.now.p1 ≡ 0) × (c.now.p2 ≡ 0) }
     ensures named { (body : List ℕ) → kind_named (next_of run.now) (with_body (plain_command c.now) body) ≡ Some result }
@@ -91,6 +95,7 @@ fn last_step(c: &Command<'_>, run: &Run) -> Kind
         Run::Announced { .. } => Kind::NoStep,
         Run::Challenged { .. } => Kind::NoStep,
         Run::CaChosen(_) => Kind::AuthenticateChip,
+        Run::RiChosen => Kind::PerformRestrictedIdentification,
     }
 }
 
@@ -111,6 +116,7 @@ fn inner_step(c: &Command<'_>, run: &Run) -> Kind
         Run::Announced { .. } => Kind::NoStep,
         Run::Challenged { .. } => Kind::NoStep,
         Run::CaChosen(_) => Kind::NoStep,
+        Run::RiChosen => Kind::NoStep,
     }
 }
 
@@ -131,6 +137,7 @@ fn verification(c: &Command<'_>, run: &Run) -> Kind
         Run::Announced { .. } => Kind::NoStep,
         Run::Challenged { .. } => Kind::NoStep,
         Run::CaChosen(_) => Kind::NoStep,
+        Run::RiChosen => Kind::NoStep,
     }
 }
 
@@ -151,6 +158,7 @@ fn challenge(c: &Command<'_>, run: &Run) -> Kind
         Run::Announced { .. } => Kind::GetChallenge,
         Run::Challenged { .. } => Kind::NoStep,
         Run::CaChosen(_) => Kind::NoStep,
+        Run::RiChosen => Kind::NoStep,
     }
 }
 
@@ -171,6 +179,7 @@ fn signature(c: &Command<'_>, run: &Run) -> Kind
         Run::Announced { .. } => Kind::NoStep,
         Run::Challenged { .. } => Kind::ExternalAuthenticate,
         Run::CaChosen(_) => Kind::NoStep,
+        Run::RiChosen => Kind::NoStep,
     }
 }
 

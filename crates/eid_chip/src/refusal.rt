@@ -194,6 +194,11 @@ pub const OFFSET: Refusal = Refusal {
     rule: Rule(38),
     status: Status(0x6B00),
 };
+/// A sector key is not one of the terminal's, by the hashes in its certificate.
+pub const OTHER_SECTOR: Refusal = Refusal {
+    rule: Rule(40),
+    status: Status(0x6300),
+};
 /// The terminal's point is not the one that it announced.
 pub const OTHER_KEY: Refusal = Refusal {
     rule: Rule(41),

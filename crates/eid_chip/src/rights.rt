@@ -2,7 +2,7 @@
 ghost use Rattle.std.specs.Prelude.{◌≡◌, ◌≤◌, ℕ, Some, option_map};
 ghost use Rattle.eid_password.specs.Passwords.{is_pin, is_puk};
 ghost use Rattle.eid_model.specs.Rules.{group_of, is_by_holder, is_granted, manages_pin, may_compare, reading, was_with, writing};
-ghost use Rattle.eid_chip.specs.Granting.{change_refused, comparing_refused, file_refused, has_among, is_given, manager_refused, of_memory, reading_refused, refusal_in, terminal_refused, unblocking_refused, writing_refused};
+ghost use Rattle.eid_chip.specs.Granting.{change_refused, comparing_refused, file_refused, has_among, identification_refused, is_given, manager_refused, of_memory, reading_refused, refusal_in, terminal_refused, unblocking_refused, writing_refused};
 ghost use Rattle.eid_chip.specs.States as states;
 
 use crate::files::{CARD_ACCESS, CARD_SECURITY};
@@ -20,6 +20,9 @@ const CAN_ALLOWED: u32 = 4;
 
 /// The right to have the age compared.
 const AGE_VERIFICATION: u32 = 0;
+
+/// The right to restricted identification.
+const RESTRICTED_IDENTIFICATION: u32 = 2;
 
 /// The right to have the community compared.
 const COMMUNITY_VERIFICATION: u32 = 1;
@@ -187,6 +190,17 @@ pub fn check_comparison(memory: &Memory, comparison: Comparison) -> Result<(), R
         return Err(NO_RIGHT);
     }
     Ok(())
+}
+
+/// Whether restricted identification may begin. Rule 20 is that there is no PACE, the rules 26, 28, 31, 32 and 33 are those
+/// of `check_file`.
+pub fn check_identification(memory: &Memory) -> Result<(), Refusal>
+    ensures { refusal_in result ≡ identification_refused (of_memory memory.now) }
+{
+    if memory.pace.is_none() {
+        return Err(NO_PACE);
+    }
+    check_file(memory, RESTRICTED_IDENTIFICATION)
 }
 
 /// Whether a terminal may manage PIN and CAN. Rule 20 is that there is no PACE, the rules 26, 28 and 31 are those of

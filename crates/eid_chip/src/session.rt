@@ -43,6 +43,8 @@ pub enum Run {
     },
     /// Chip authentication was chosen.
     CaChosen(CaChosen),
+    /// Restricted identification was chosen.
+    RiChosen,
 }
 
 /// What is asked of the last PACE later.

@@ -1,61 +1,45 @@
 //! VERIFY of auxiliary data (BSI TR-03110-2, TR-03110-3).
-ghost use Rattle.std.specs.Prelude.{◌≡◌, ◌≤◌, [], Err, None, Option, Some};
+ghost use Rattle.std.specs.Prelude.{◌≡◌, ◌≤◌, [], Option, Some};
 ghost use Rattle.std.specs.Str.{bytes_eq};
 ghost use Rattle.arrayvec.specs.ArrayVec.{array_vec_len};
 ghost use Rattle.eid_apdu.specs.Answer.{plain_reply};
 ghost use Rattle.eid_apdu.specs.Command.{plain_command};
 ghost use Rattle.eid_sm.specs.Keys.{ChannelState};
 ghost use Rattle.eid_store.specs.Store as stored;
-ghost use Rattle.eid_model.specs.Auxiliary.{body_of, comparison_in, reference_file};
+ghost use Rattle.eid_bits.specs.Identifiers.{known_bytes};
+ghost use Rattle.eid_tlv.specs.Objects.{object};
+ghost use Rattle.eid_model.specs.Auxiliary.{comparison_in, reference_file};
 ghost use Rattle.eid_chip.specs.Granting.{refusal_in, sent_refused, sent_to, verdict_refused};
 ghost use Rattle.eid_chip.specs.Held.{held, held_file};
 ghost use Rattle.eid_chip.specs.States.{state};
 ghost use Rattle.eid_chip.specs.Steps.{IsAnsweredByKind};
 
+use crate::authentication::append;
 use crate::ending::{carried_out, refused};
 use crate::files::put_file;
 use crate::reaction::Reaction;
 use crate::refusal::{BODY_FORM, NO_REFERENCE, NOT_COMPARED, NOTHING_SENT, Refusal};
 use crate::rights::check_comparison;
 use crate::session::{Memory, Session};
+use arrayvec::ArrayVec;
 use eid_apdu::{Command, Reply};
 use eid_aux::{Compared, compare_birth, compare_community, compare_expiry};
+use eid_bits::Known;
 use eid_cells::Eeprom;
 use eid_model::{Comparison, Kind};
 use eid_record::FileNo;
 use eid_store::Store;
 
-/// Whether the body is one object 06 with the identifier of the date of birth (BSI TR-03110-3).
-#[tactic(auto, unfolding(eid_tlv::specs::Objects::object, eid_tlv::specs::Objects::tag_bytes, eid_tlv::specs::Objects::length_bytes))]
-fn names_age(body: &[u8]) -> bool
-    ensures { result ≡ bytes_eq body.now (body_of Comparison.Age) }
-{
-    body == [
-        0x06, 0x09, 0x04, 0x00, 0x7f, 0x00, 0x07, 0x03, 0x01, 0x04, 0x01,
-    ]
-    .as_slice()
-}
+/// The object that holds an identifier.
+const IDENTIFIER: u16 = 0x06;
 
-/// Whether the body is one object 06 with the identifier of the date of expiry (BSI TR-03110-3).
-#[tactic(auto, unfolding(eid_tlv::specs::Objects::object, eid_tlv::specs::Objects::tag_bytes, eid_tlv::specs::Objects::length_bytes))]
-fn names_validity(body: &[u8]) -> bool
-    ensures { result ≡ bytes_eq body.now (body_of Comparison.Validity) }
+/// Whether the body is one object 06 with this identifier, and nothing else (BSI TR-03110-3).
+fn names(body: &[u8], known: Known) -> bool
+    ensures { result ≡ bytes_eq body.now (object 0x06 (known_bytes known)) }
 {
-    body == [
-        0x06, 0x09, 0x04, 0x00, 0x7f, 0x00, 0x07, 0x03, 0x01, 0x04, 0x02,
-    ]
-    .as_slice()
-}
-
-/// Whether the body is one object 06 with the identifier of the community (BSI TR-03110-3).
-#[tactic(auto, unfolding(eid_tlv::specs::Objects::object, eid_tlv::specs::Objects::tag_bytes, eid_tlv::specs::Objects::length_bytes))]
-fn names_community(body: &[u8]) -> bool
-    ensures { result ≡ bytes_eq body.now (body_of Comparison.Community) }
-{
-    body == [
-        0x06, 0x09, 0x04, 0x00, 0x7f, 0x00, 0x07, 0x03, 0x01, 0x04, 0x03,
-    ]
-    .as_slice()
+    let mut written = ArrayVec::<u8, 32>::new();
+    append(&mut written, IDENTIFIER, known.bytes());
+    body == written.as_slice()
 }
 
 /// The comparison that a body names.
@@ -63,13 +47,13 @@ fn names_community(body: &[u8]) -> bool
 fn comparison_in(body: &[u8]) -> Option<Comparison>
     ensures { result ≡ comparison_in body.now }
 {
-    if names_age(body) {
+    if names(body, Known::Birth) {
         return Some(Comparison::Age);
     }
-    if names_validity(body) {
+    if names(body, Known::Expiry) {
         return Some(Comparison::Validity);
     }
-    if names_community(body) {
+    if names(body, Known::Community) {
         return Some(Comparison::Community);
     }
     None
@@ -121,23 +105,8 @@ fn compare(memory: &Memory, comparison: Comparison, stored: &[u8]) -> Result<(),
     }
 }
 
-/// Whether the terminal sent what a comparison compares. Rule 34 is that it did not, rule 35 that there is nothing stored.
-fn compare_nothing(memory: &Memory, comparison: Comparison) -> Refusal
-    ensures { refusal_in (Err result) ≡ sent_refused comparison None (sent_to memory.now comparison) }
-{
-    let Some(terminal) = &memory.terminal else {
-        return NOTHING_SENT;
-    };
-    let sent = match comparison {
-        Comparison::Age => terminal.aux.birth.is_some(),
-        Comparison::Validity => terminal.aux.expiry.is_some(),
-        Comparison::Community => terminal.aux.community.is_some(),
-    };
-    if sent { NO_REFERENCE } else { NOTHING_SENT }
-}
-
 /// Compares what the terminal sent with the file that is there for it, which is read over the content of a reply. The rules 34
-/// to 36 are those of `compare`; an absent file is nothing stored.
+/// to 36 are those of `compare`; an absent file holds nothing to compare with, as an empty one does.
 fn compare_kept<E: Eeprom>(
     memory: &Memory,
     comparison: Comparison,
@@ -148,11 +117,8 @@ fn compare_kept<E: Eeprom>(
     requires { stored.Fits store.now (E.device cells.now) (E.cells cells.now) }
     ensures { refusal_in result ≡ sent_refused comparison (held_file (E.cells cells.now) (reference_file comparison)) (sent_to memory.now comparison) }
 {
-    if put_file(store, cells, reference_file(comparison), &mut reply.content) {
-        compare(memory, comparison, reply.content.as_slice())
-    } else {
-        Err(compare_nothing(memory, comparison))
-    }
+    put_file(store, cells, reference_file(comparison), &mut reply.content);
+    compare(memory, comparison, reply.content.as_slice())
 }
 
 /// VERIFY of auxiliary data that the terminal sent. Rule 10 is a body that names no comparison, the rules 20, 26, 28 and 31 to

@@ -6,12 +6,13 @@ use Rattle.std.proofs.lemmas.Bool.{and_parts}
 use Rattle.std.proofs.lemmas.Bool.Decides.{nat_tests}
 use Rattle.eid_apdu.specs.Command.{PlainCommand}
 use Rattle.eid_bits.specs.Date.{is_between}
+use Rattle.eid_files.specs.Names.{data_group_of}
 use Rattle.eid_bits.specs.Rights.{is_right}
 use Rattle.eid_record.specs.Plain.{FullRecord}
 use Rattle.eid_model.specs.declared.kind.Kind.{Kind}
 use Rattle.eid_model.specs.declared.kind.Kind.TheVariants.{ReadBinary}
 use Rattle.eid_model.specs.Answers.{outcome, outcome_by}
-use Rattle.eid_model.specs.Laws.{IsAuthorised, all_rules, data_group, group_read, is_kept, is_on_access, others_hold, sent_at}
+use Rattle.eid_model.specs.Laws.{HasCompleted, HasRight, all_rules, group_read, is_kept, is_on_access, others_hold, sent_at}
 use Rattle.eid_model.specs.Ledger.{state_of}
 use Rattle.eid_model.specs.Legal.{AreLegal}
 use Rattle.eid_model.specs.Moments.{PlainMoment, leaves_no_session}
@@ -96,21 +97,24 @@ granted_parts true true false chain e = absurd (cc)
 granted_parts true false holder chain e = absurd (cc)
 granted_parts false right holder chain e = absurd (cc)
 
-authorised : (s : State) (bit : ℕ) → conditions s bit ≡ true → IsAuthorised s bit
-unfolding is_granted
-authorised s bit e =
+-- the three conditions before the right
+pub completed_so : (s : State) (right : Bool) → (is_some s.pace && (is_some s.terminal && (s.chip_proven && (right && true)))) ≡ true → HasCompleted s × (right ≡ true)
+completed_so s right e =
     let pace = and_parts (is_some s.pace) _ e in
     let terminal = and_parts (is_some s.terminal) _ pace.1 in
     let chip = and_parts s.chip_proven _ terminal.1 in
-    let granted = granted_parts s.chip_proven (is_right bit) (holder_gave s.pace bit) (chain_gave s.certificates bit) (and_parts (is_granted s bit) true chip.1).0 in
-    record { pace = pace.0; terminal = terminal.0; chip = chip.0; holder = granted.0; chain = granted.1 }
+    (record { pace = pace.0; terminal = terminal.0; chip = chip.0 }, (and_parts right true chip.1).0)
 
-pub granted_so : (s : State) (bit : ℕ) → is_right bit ≡ true → IsAuthorised s bit → is_granted s bit ≡ true
+pub right_of : (s : State) (bit : ℕ) → is_granted s bit ≡ true → HasRight s bit
 unfolding is_granted
-granted_so s bit right a = rw (right, a.holder, a.chain, a.chip) refl
+right_of s bit e = granted_parts s.chip_proven (is_right bit) (holder_gave s.pace bit) (chain_gave s.certificates bit) e
 
-allowed : (s : State) (bit : ℕ) → is_right bit ≡ true → IsAuthorised s bit → conditions s bit ≡ true
-allowed s bit right a = rw (granted_so s bit right a, a.pace, a.terminal, a.chip) refl
+pub granted_so : (s : State) (bit : ℕ) → is_right bit ≡ true → s.chip_proven ≡ true → HasRight s bit → is_granted s bit ≡ true
+unfolding is_granted
+granted_so s bit right chip has = rw (right, has.0, has.1, chip) refl
+
+allowed : (s : State) (bit : ℕ) → is_right bit ≡ true → HasCompleted s → HasRight s bit → conditions s bit ≡ true
+allowed s bit right a has = rw (granted_so s bit right a.chip has, a.pace, a.terminal, a.chip) refl
 
 -- ---- the data group
 
@@ -144,7 +148,7 @@ none_read false group e = cc
 
 reads : (s : Situation) (group : ℕ) → group_read s ≡ Some group → Reads s group
 reads s group e = by (file_meant s) refl e where
-  by : (o : Option ℕ) → file_meant s ≡ o → (if is_of ReadBinary s.kind then option_and_then data_group o else None) ≡ Some group → Reads s group
+  by : (o : Option ℕ) → file_meant s ≡ o → (if is_of ReadBinary s.kind then option_and_then data_group_of o else None) ≡ Some group → Reads s group
   by None meant so = absurd (none_read (is_of ReadBinary s.kind) group so)
   by (Some file) meant so =
       let all = reads_at (is_of ReadBinary s.kind) (is_between 1 21 (group_of file)) (group_of file) group so in
@@ -174,7 +178,7 @@ rule_is opening before m c legal plain answer =
 
 pub access : (opening : FullRecord) (m : PlainMoment) (before : List PlainMoment) (c : PlainCommand) (group : ℕ) → AreLegal opening (m ∷ before) → m.plain ≡ Some c → is_some m.answer ≡ true
     → group_read (sent_at opening before c m) ≡ Some group
-    → m.rule ≡ 0 ↔ (IsAuthorised (sent_at opening before c m).state (reading group) × (others_hold (sent_at opening before c m) ≡ true))
+    → m.rule ≡ 0 ↔ (HasCompleted (sent_at opening before c m).state × HasRight (sent_at opening before c m).state (reading group) × (others_hold (sent_at opening before c m) ≡ true))
 unfolding outcome
 access opening m before c group legal plain answer read = (forth, back) where
   s : Situation
@@ -186,16 +190,17 @@ access opening m before c group legal plain answer read = (forth, back) where
   r : Reads s group
   r = reads s group read
 
-  forth : m.rule ≡ 0 → IsAuthorised s.state (reading group) × (others_hold s ≡ true)
+  forth : m.rule ≡ 0 → HasCompleted s.state × HasRight s.state (reading group) × (others_hold s ≡ true)
   forth zero =
       let kept : list_all (is_kept s) all_rules ≡ true = all_kept all_rules s refl (sym rule ∙ zero) in
       let both = and_parts (others_hold s) (list_all (λ row. not (is_on_access row.number) || is_kept s row) all_rules) (split (is_kept s) all_rules ∙ kept) in
-      (authorised s.state (reading group) (sym (access_so s group r) ∙ both.1), both.0)
+      let done = completed_so s.state (is_granted s.state (reading group)) (sym (access_so s group r) ∙ both.1) in
+      (done.0, right_of s.state (reading group) done.1, both.0)
 
-  back : IsAuthorised s.state (reading group) × (others_hold s ≡ true) → m.rule ≡ 0
+  back : HasCompleted s.state × HasRight s.state (reading group) × (others_hold s ≡ true) → m.rule ≡ 0
   back both =
       let right : is_right (reading group) ≡ true = right_so group (sym (ap (is_between 1 21) r.is) ∙ r.between) in
-      let access : list_all (λ row. not (is_on_access row.number) || is_kept s row) all_rules ≡ true = access_so s group r ∙ allowed s.state (reading group) right both.0 in
-      let others : others_hold s ≡ true = both.1 in
+      let access : list_all (λ row. not (is_on_access row.number) || is_kept s row) all_rules ≡ true = access_so s group r ∙ allowed s.state (reading group) right both.0 both.1 in
+      let others : others_hold s ≡ true = both.2 in
       let kept : list_all (is_kept s) all_rules ≡ true = sym (split (is_kept s) all_rules) ∙ rw (others, access) refl in
       rule ∙ none_failed all_rules s kept

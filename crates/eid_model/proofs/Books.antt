@@ -17,7 +17,7 @@ use Rattle.eid_model.specs.Moments.{Event, PoweredOn, PoweredOff, Received, Plai
 use Rattle.eid_model.specs.Runs.{answers_of}
 use Rattle.eid_model.specs.Sessions.{State}
 use Rattle.eid_model.specs.declared.kind.Kind.{Kind}
-use Rattle.eid_model.specs.declared.kind.Kind.TheVariants.{SelectApplication, SelectMasterFile, SelectFile, ReadBinary, UpdateBinary, SelectPace, SelectPublicKey, VerifyCertificate, AnnounceTerminal, GetChallenge, ExternalAuthenticate, SelectChipAuthentication, EncryptedNonce, MapNonce, PerformKeyAgreement, MutualAuthentication, AuthenticateChip, ChangePin, UnblockPin, ChangeCan, ActivatePin, DeactivatePin, VerifyAuxiliary, NoProtocol, NoStep}
+use Rattle.eid_model.specs.declared.kind.Kind.TheVariants.{SelectApplication, SelectMasterFile, SelectFile, ReadBinary, UpdateBinary, SelectPace, SelectPublicKey, VerifyCertificate, AnnounceTerminal, GetChallenge, ExternalAuthenticate, SelectChipAuthentication, SelectRestrictedIdentification, EncryptedNonce, MapNonce, PerformKeyAgreement, MutualAuthentication, AuthenticateChip, PerformRestrictedIdentification, VerifyAuxiliary, ChangePin, UnblockPin, ChangeCan, ActivatePin, DeactivatePin, NoProtocol, NoStep}
 use Rattle.eid_model.specs.Rules.{Incoming, NoCommand, MissingObjects, WrongObjects, OfCommand, Situation, RuleRow, plain_of, answer_rules, commit_rules, first_failed, proves_pin, is_token, token_effects, one_effect, to_advance, to_commit, to_write, file_meant, offset_meant, bytes_of_file, concerns}
 use Rattle.eid_model.specs.Answers.{due, due_by, situation, rules_before}
 use Rattle.eid_model.specs.Bodies.{data_in}
@@ -96,18 +96,20 @@ kind_entered (Some AnnounceTerminal) s update = tt
 kind_entered (Some GetChallenge) s update = tt
 kind_entered (Some ExternalAuthenticate) s update = tt
 kind_entered (Some SelectChipAuthentication) s update = tt
+kind_entered (Some SelectRestrictedIdentification) s update = tt
 kind_entered (Some EncryptedNonce) s update = tt
 kind_entered (Some MapNonce) s update = tt
 kind_entered (Some PerformKeyAgreement) s update = tt
 kind_entered (Some MutualAuthentication) s update =
     token_entered s.kept (proves_pin s.state.phase) (is_token (data_in s.command.body) s.state.phase)
 kind_entered (Some AuthenticateChip) s update = tt
+kind_entered (Some PerformRestrictedIdentification) s update = tt
+kind_entered (Some VerifyAuxiliary) s update = tt
 kind_entered (Some ChangePin) s update = (tt, tt)
 kind_entered (Some UnblockPin) s update = (tt, tt)
 kind_entered (Some ChangeCan) s update = (tt, tt)
 kind_entered (Some ActivatePin) s update = (tt, tt)
 kind_entered (Some DeactivatePin) s update = (tt, tt)
-kind_entered (Some VerifyAuxiliary) s update = tt
 kind_entered (Some NoProtocol) s update = tt
 kind_entered (Some NoStep) s update = tt
 

@@ -5,7 +5,6 @@ use Rattle.std.specs.List.{list_all}
 use Rattle.std.proofs.lemmas.Bool.{and_parts, eqb-true}
 use Rattle.std.proofs.lemmas.List.Folds.{list_all-append}
 use Rattle.eid_apdu.specs.Command.{PlainCommand}
-use Rattle.eid_bits.specs.Rights.{is_right}
 use Rattle.eid_copro.specs.declared.ask.Ask.{Ask}
 use Rattle.eid_copro.specs.declared.ask.Answer.{Answer}
 use Rattle.eid_copro.specs.declared.ask.Question.{Question}
@@ -16,13 +15,13 @@ use Rattle.eid_model.specs.declared.kind.Kind.{Kind}
 use Rattle.eid_model.specs.declared.kind.Kind.TheVariants.{VerifyAuxiliary}
 use Rattle.eid_model.specs.Answers.{outcome, outcome_by, question, question_of, rules_before}
 use Rattle.eid_model.specs.Auxiliary.{comparison_in, compared_of, is_yes}
-use Rattle.eid_model.specs.Laws.{HasItsRight, IsServed, all_rules, comparison_asked, is_compared_by, is_kept, is_on_access, others_hold_but_36, sent_at}
+use Rattle.eid_model.specs.Laws.{HasCompleted, HasItsRight, all_rules, comparison_asked, tells_comparison, is_kept, is_on_access, others_hold_but_36, sent_at}
 use Rattle.eid_model.specs.Legal.{AreAsked, AreLegal, situation_after}
 use Rattle.eid_model.specs.Runs.{answers_of}
 use Rattle.eid_model.specs.Moments.{PlainMoment}
-use Rattle.eid_model.specs.Rules.{AGE_VERIFICATION, COMMUNITY_VERIFICATION, Incoming, OfCommand, RuleRow, Situation, answer_rules, chain_gave, concerns, first_failed, holder_gave, is_granted, is_of, may_compare}
+use Rattle.eid_model.specs.Rules.{AGE_VERIFICATION, COMMUNITY_VERIFICATION, Incoming, OfCommand, RuleRow, Situation, answer_rules, concerns, first_failed, is_of, may_compare}
 use Rattle.eid_model.specs.Sessions.{State}
-use Rattle.eid_model.proofs.Access.{all_kept, failed_at, granted_parts, kept_at, of_command, rule_is, split}
+use Rattle.eid_model.proofs.Access.{all_kept, completed_so, failed_at, granted_so, kept_at, of_command, right_of, rule_is, split}
 use Rattle.eid_model.proofs.Laws.{IsAnswered, answered_for, plain_so}
 
 -- ---- what is asked
@@ -78,21 +77,21 @@ last false true = refl
 last false false = refl
 
 -- what holds of each kept row, holds of all
-weaker : (test : RuleRow → Bool) (rows : List RuleRow) (s : Situation) → ((row : RuleRow) → is_kept s row ≡ true → test row ≡ true) → list_all (is_kept s) rows ≡ true → list_all test rows ≡ true
+pub weaker : (test : RuleRow → Bool) (rows : List RuleRow) (s : Situation) → ((row : RuleRow) → is_kept s row ≡ true → test row ≡ true) → list_all (is_kept s) rows ≡ true → list_all test rows ≡ true
 weaker test [] s holds e = refl
 weaker test (row ∷ rows) s holds e =
     let both = and_parts (is_kept s row) (list_all (is_kept s) rows) e in
     let first : test row ≡ true = holds row both.0 in
     rw first (weaker test rows s holds both.1)
 
-behind : (a b : Bool) → b ≡ true → (a || b) ≡ true
+pub behind : (a b : Bool) → b ≡ true → (a || b) ≡ true
 behind true b e = refl
 behind false b e = e
 
 -- the verdict's row and those behind it, where no question was put
-rest_rule : (s : Situation) → s.kind ≡ Some VerifyAuxiliary → s.answers ≡ [] → is_compared_by (outcome_by (first_failed rest s) s).rule ≡ true
+rest_rule : (s : Situation) → s.kind ≡ Some VerifyAuxiliary → s.answers ≡ [] → tells_comparison (outcome_by (first_failed rest s) s).rule ≡ true
 rest_rule s kind answers = by (is_yes (compared_of s.kept (comparison_in s.command.body) s.state.terminal)) refl where
-  by : (yes : Bool) → is_yes (compared_of s.kept (comparison_in s.command.body) s.state.terminal) ≡ yes → is_compared_by (outcome_by (first_failed rest s) s).rule ≡ true
+  by : (yes : Bool) → is_yes (compared_of s.kept (comparison_in s.command.body) s.state.terminal) ≡ yes → tells_comparison (outcome_by (first_failed rest s) s).rule ≡ true
   by true is = rw (answers, is, kind) refl
   by false is = rw (answers, is, kind) refl
 
@@ -107,27 +106,18 @@ access_hold : (s : Situation) (comparison : Comparison) → comparison_in s.comm
     → list_all (λ row. not (is_on_access row.number) || is_kept s row) front ≡ conditions s.state comparison
 access_hold s comparison asked kind = rw (asked, kind) refl
 
-right_of : (s : State) (comparison : Comparison) → may_compare s (Some comparison) ≡ true → HasItsRight s comparison
-unfolding is_granted
-right_of s Age e = granted_parts s.chip_proven (is_right AGE_VERIFICATION) (holder_gave s.pace AGE_VERIFICATION) (chain_gave s.certificates AGE_VERIFICATION) e
-right_of s Validity e = tt
-right_of s Community e = granted_parts s.chip_proven (is_right COMMUNITY_VERIFICATION) (holder_gave s.pace COMMUNITY_VERIFICATION) (chain_gave s.certificates COMMUNITY_VERIFICATION) e
+its_right : (s : State) (comparison : Comparison) → may_compare s (Some comparison) ≡ true → HasItsRight s comparison
+its_right s Age e = right_of s AGE_VERIFICATION e
+its_right s Validity e = tt
+its_right s Community e = right_of s COMMUNITY_VERIFICATION e
 
-right_so : (s : State) (comparison : Comparison) → s.chip_proven ≡ true → HasItsRight s comparison → may_compare s (Some comparison) ≡ true
-unfolding is_granted
-right_so s Age chip right = rw (right.0, right.1, chip) refl
-right_so s Validity chip right = refl
-right_so s Community chip right = rw (right.0, right.1, chip) refl
+may_so : (s : State) (comparison : Comparison) → s.chip_proven ≡ true → HasItsRight s comparison → may_compare s (Some comparison) ≡ true
+may_so s Age chip right = granted_so s AGE_VERIFICATION refl chip right
+may_so s Validity chip right = refl
+may_so s Community chip right = granted_so s COMMUNITY_VERIFICATION refl chip right
 
-served_so : (s : State) (comparison : Comparison) → conditions s comparison ≡ true → IsServed s comparison
-served_so s comparison e =
-    let pace = and_parts (is_some s.pace) _ e in
-    let terminal = and_parts (is_some s.terminal) _ pace.1 in
-    let chip = and_parts s.chip_proven _ terminal.1 in
-    record { pace = pace.0; terminal = terminal.0; chip = chip.0; right = right_of s comparison (and_parts (may_compare s (Some comparison)) true chip.1).0 }
-
-allowed : (s : State) (comparison : Comparison) → IsServed s comparison → conditions s comparison ≡ true
-allowed s comparison a = rw (right_so s comparison a.chip a.right, a.pace, a.terminal, a.chip) refl
+allowed : (s : State) (comparison : Comparison) → HasCompleted s → HasItsRight s comparison → conditions s comparison ≡ true
+allowed s comparison a right = rw (may_so s comparison a.chip right, a.pace, a.terminal, a.chip) refl
 
 -- ---- no question
 
@@ -148,7 +138,7 @@ no_question s kind = by (is_none (first_failed (rules_before ++ answer_rules) s)
 
 -- ---- the law
 
-either : (n : ℕ) → is_compared_by n ≡ true → (n ≡ 0) ⊎ (n ≡ 36)
+either : (n : ℕ) → tells_comparison n ≡ true → (n ≡ 0) ⊎ (n ≡ 36)
 either n e = by (n == 0) refl e where
   by : (zero : Bool) → (n == 0) ≡ zero → (zero || n == 36) ≡ true → (n ≡ 0) ⊎ (n ≡ 36)
   by true is so = inl (eqb-true n 0 is)
@@ -156,7 +146,7 @@ either n e = by (n == 0) refl e where
 
 pub comparison_access : (opening : FullRecord) (m : PlainMoment) (before : List PlainMoment) (c : PlainCommand) (comparison : Comparison) → AreLegal opening (m ∷ before) → m.plain ≡ Some c → is_some m.answer ≡ true
     → comparison_asked (sent_at opening before c m) ≡ Some comparison
-    → (is_compared_by m.rule ≡ true) ↔ (IsServed (sent_at opening before c m).state comparison × (others_hold_but_36 (sent_at opening before c m) ≡ true))
+    → (tells_comparison m.rule ≡ true) ↔ (HasCompleted (sent_at opening before c m).state × HasItsRight (sent_at opening before c m).state comparison × (others_hold_but_36 (sent_at opening before c m) ≡ true))
 unfolding outcome
 comparison_access opening m before c comparison legal plain answer asked = (forth, back) where
   s : Situation
@@ -185,19 +175,20 @@ comparison_access opening m before c comparison legal plain answer asked = (fort
   kept_by (inl zero) = (and_parts (list_all (is_kept s) front) (list_all (is_kept s) rest) (sym (list_all-append (is_kept s) front rest) ∙ all_kept all_rules s refl zero)).0
   kept_by (inr verdict) = front_kept front rest s refl verdict
 
-  forth : is_compared_by m.rule ≡ true → IsServed s.state comparison × (others_hold_but_36 s ≡ true)
+  forth : tells_comparison m.rule ≡ true → HasCompleted s.state × HasItsRight s.state comparison × (others_hold_but_36 s ≡ true)
   forth e =
-      let kept : list_all (is_kept s) front ≡ true = kept_by (either (outcome s).rule (sym (ap is_compared_by rule) ∙ e)) in
+      let kept : list_all (is_kept s) front ≡ true = kept_by (either (outcome s).rule (sym (ap tells_comparison rule) ∙ e)) in
       let access = weaker (λ row. not (is_on_access row.number) || is_kept s row) front s (λ row k. behind (not (is_on_access row.number)) (is_kept s row) k) kept in
       let others : list_all (λ row. is_on_access row.number || row.number == 36 || is_kept s row) front ≡ true = weaker (λ row. is_on_access row.number || row.number == 36 || is_kept s row) front s (λ row k. rw k (last (is_on_access row.number) (row.number == 36))) kept in
       let first : list_all (λ row. is_on_access row.number || row.number == 36 || is_kept s row) front ≡ true = others in
       let second = rest_holds s kind answers in
-      (served_so s.state comparison (sym (access_hold s comparison both.1 kind) ∙ access), list_all-append (λ row. is_on_access row.number || row.number == 36 || is_kept s row) front rest ∙ rw (first, second) refl)
+      let done = completed_so s.state (may_compare s.state (Some comparison)) (sym (access_hold s comparison both.1 kind) ∙ access) in
+      (done.0, its_right s.state comparison done.1, list_all-append (λ row. is_on_access row.number || row.number == 36 || is_kept s row) front rest ∙ rw (first, second) refl)
 
-  back : IsServed s.state comparison × (others_hold_but_36 s ≡ true) → is_compared_by m.rule ≡ true
+  back : HasCompleted s.state × HasItsRight s.state comparison × (others_hold_but_36 s ≡ true) → tells_comparison m.rule ≡ true
   back e =
-      let parts = and_parts (list_all (λ row. is_on_access row.number || row.number == 36 || is_kept s row) front) (list_all (λ row. is_on_access row.number || row.number == 36 || is_kept s row) rest) (sym (list_all-append (λ row. is_on_access row.number || row.number == 36 || is_kept s row) front rest) ∙ e.1) in
+      let parts = and_parts (list_all (λ row. is_on_access row.number || row.number == 36 || is_kept s row) front) (list_all (λ row. is_on_access row.number || row.number == 36 || is_kept s row) rest) (sym (list_all-append (λ row. is_on_access row.number || row.number == 36 || is_kept s row) front rest) ∙ e.2) in
       let first : list_all (λ row. is_on_access row.number || is_kept s row) front ≡ true = parts.0 in
-      let access : list_all (λ row. not (is_on_access row.number) || is_kept s row) front ≡ true = access_hold s comparison both.1 kind ∙ allowed s.state comparison e.0 in
+      let access : list_all (λ row. not (is_on_access row.number) || is_kept s row) front ≡ true = access_hold s comparison both.1 kind ∙ allowed s.state comparison e.0 e.1 in
       let kept : list_all (is_kept s) front ≡ true = sym (split (is_kept s) front) ∙ rw (first, access) refl in
-      ap is_compared_by (rule ∙ ap (λ (o : Option RuleRow). (outcome_by o s).rule) (front_passed front rest s kept)) ∙ rest_rule s kind answers
+      ap tells_comparison (rule ∙ ap (λ (o : Option RuleRow). (outcome_by o s).rule) (front_passed front rest s kept)) ∙ rest_rule s kind answers

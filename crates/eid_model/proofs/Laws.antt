@@ -80,7 +80,7 @@ kind_of opening before MissingObjects = refl
 kind_of opening before WrongObjects = refl
 kind_of opening before (OfCommand c) = refl
 
-kind_so : (opening : FullRecord) (before : List PlainMoment) (m : PlainMoment) (a : IsAnswered opening before m) → kind_sent m before ≡ (at opening before a.incoming m).kind
+pub kind_so : (opening : FullRecord) (before : List PlainMoment) (m : PlainMoment) (a : IsAnswered opening before m) → kind_sent m before ≡ (at opening before a.incoming m).kind
 kind_so opening before m a =
     ap (λ (c : Option PlainCommand). option_and_then (kind_named (next (run (live before)))) (option_map (request (chaining (live before))) c))
     (plain_so opening before m a) ∙ kind_of opening before a.incoming
@@ -333,7 +333,7 @@ abbrev tries_at : FullRecord → List PlainMoment → ℕ
 tries_at opening moments = tries_after opening.fields.tries (ledger opening moments)
 
 -- what is answered and does not end the session
-goes_answered : (m : PlainMoment) → ends_session m ≡ false → is_some m.answer ≡ true
+pub goes_answered : (m : PlainMoment) → ends_session m ≡ false → is_some m.answer ≡ true
 goes_answered m e =
     let goes = not-false (is_received m.input && is_some m.answer && not (ends_session_by m.rule)) e in
     (and_parts (is_received m.input) (is_some m.answer) (and_parts (is_received m.input && is_some m.answer) (not (ends_session_by m.rule)) goes).0).1

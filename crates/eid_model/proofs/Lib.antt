@@ -9,4 +9,5 @@ pub mod Compared
 pub mod Laws
 pub mod Access
 pub mod Comparisons
+pub mod Identifiers
 pub mod KeyNames

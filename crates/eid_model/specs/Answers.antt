@@ -22,7 +22,10 @@ use Rattle.eid_cvc.specs.CertificateIn.{certificate_in}
 use Rattle.eid_cvc.specs.Chains.{PlainChain}
 use Rattle.eid_trust.specs.Trust.{key_of, signer_of}
 use Rattle.eid_model.specs.declared.kind.Kind.{Kind}
-use Rattle.eid_model.specs.declared.kind.Kind.TheVariants.{SelectApplication, SelectMasterFile, SelectFile, ReadBinary, UpdateBinary, SelectPace, SelectPublicKey, VerifyCertificate, AnnounceTerminal, GetChallenge, ExternalAuthenticate, SelectChipAuthentication, EncryptedNonce, MapNonce, PerformKeyAgreement, MutualAuthentication, AuthenticateChip, ChangePin, UnblockPin, ChangeCan, ActivatePin, DeactivatePin, VerifyAuxiliary, NoProtocol, NoStep}
+use Rattle.eid_model.specs.declared.kind.Kind.TheVariants.{SelectApplication, SelectMasterFile, SelectFile, ReadBinary, UpdateBinary, SelectPace, SelectPublicKey, VerifyCertificate, AnnounceTerminal, GetChallenge, ExternalAuthenticate, SelectChipAuthentication, SelectRestrictedIdentification, EncryptedNonce, MapNonce, PerformKeyAgreement, MutualAuthentication, AuthenticateChip, PerformRestrictedIdentification, VerifyAuxiliary, ChangePin, UnblockPin, ChangeCan, ActivatePin, DeactivatePin, NoProtocol, NoStep}
+use Rattle.eid_ri.specs.SectorKeys.{PlainSectorKeys}
+use Rattle.eid_ri.specs.SectorKeysIn.{sector_keys_in}
+use Rattle.eid_model.specs.Sectors.{identifiers, next_point, points_of}
 use Rattle.eid_model.specs.Bodies.{data_in, authentication_data}
 use Rattle.eid_model.specs.Kinds.{kind_named}
 use Rattle.eid_model.specs.Runs.{Phase, Chose, SentNonce, HasBase, HasSecret, choice_in, Authentication, Announced, Challenged, ChoseProtocol}
@@ -81,6 +84,11 @@ proof_reply point (ChoseProtocol chosen) (answers.Challenge nonce ∷ answers.Sh
     data_alone (object 0x7C (object 0x81 nonce ++ object 0x82 (proven_by chosen.protocol point nonce shared).token))
 proof_reply point authentication answers = status_alone 0x9000
 
+-- the identifiers in the sectors that were asked for
+abbrev pub identifiers_reply : Option PlainSectorKeys → List Answer → PlainReply
+identifiers_reply None answers = status_alone 0x9000
+identifiers_reply (Some keys) answers = data_alone (object 0x7C (identifiers keys.first keys.second answers))
+
 -- the answer to a command that is carried out
 abbrev pub success_of : Kind → Situation → PlainReply
 success_of SelectApplication s = status_alone 0x9000
@@ -96,17 +104,19 @@ success_of AnnounceTerminal s = status_alone 0x9000
 success_of GetChallenge s = challenge_reply s.answers
 success_of ExternalAuthenticate s = status_alone 0x9000
 success_of SelectChipAuthentication s = status_alone 0x9000
+success_of SelectRestrictedIdentification s = status_alone 0x9000
 success_of EncryptedNonce s = nonce_reply s.kept.fields s.state.phase s.answers
 success_of MapNonce s = point_reply 0x82 s.answers
 success_of PerformKeyAgreement s = point_reply 0x84 s.answers
 success_of MutualAuthentication s = token_reply s.kept.fields s.state.phase
 success_of AuthenticateChip s = proof_reply (data_in s.command.body) s.state.authentication s.answers
+success_of PerformRestrictedIdentification s = identifiers_reply (sector_keys_in s.command.body) s.answers
+success_of VerifyAuxiliary s = status_alone 0x9000
 success_of ChangePin s = status_alone 0x9000
 success_of UnblockPin s = status_alone 0x9000
 success_of ChangeCan s = status_alone 0x9000
 success_of ActivatePin s = status_alone 0x9000
 success_of DeactivatePin s = status_alone 0x9000
-success_of VerifyAuxiliary s = status_alone 0x9000
 success_of NoProtocol s = status_alone 0x9000
 success_of NoStep s = status_alone 0x9000
 
@@ -196,6 +206,10 @@ chip_question kept point (ChoseProtocol chosen) [] = Some questions.Challenge
 chip_question kept point (ChoseProtocol chosen) (answers.Challenge nonce ∷ []) = Some (questions.Agree kept.ca_secret point)
 chip_question kept point authentication answers = None
 
+-- a secret is agreed with the chip's static key and each sector key, one behind the other
+abbrev pub sector_question : PlainRecord → Option PlainSectorKeys → List Answer → Option Question
+sector_question kept keys answers = option_map (λ point. questions.Agree kept.ri_secret point) (next_point (points_of keys) answers)
+
 -- the question of a kind that follows these answers
 abbrev pub question_of : Option Kind → Situation → Option Question
 question_of None s = None
@@ -211,17 +225,19 @@ question_of (Some AnnounceTerminal) s = None
 question_of (Some GetChallenge) s = challenge_question s.state.authentication s.answers
 question_of (Some ExternalAuthenticate) s = signature_question s.command.body s.state.authentication s.answers
 question_of (Some SelectChipAuthentication) s = None
+question_of (Some SelectRestrictedIdentification) s = None
 question_of (Some EncryptedNonce) s = nonce_question s.state.phase s.answers
 question_of (Some MapNonce) s = map_question (data_in s.command.body) s.state.phase s.answers
 question_of (Some PerformKeyAgreement) s = agree_question (data_in s.command.body) s.state.phase s.answers
 question_of (Some MutualAuthentication) s = None
 question_of (Some AuthenticateChip) s = chip_question s.kept.fields (data_in s.command.body) s.state.authentication s.answers
+question_of (Some PerformRestrictedIdentification) s = sector_question s.kept.fields (sector_keys_in s.command.body) s.answers
+question_of (Some VerifyAuxiliary) s = None
 question_of (Some ChangePin) s = None
 question_of (Some UnblockPin) s = None
 question_of (Some ChangeCan) s = None
 question_of (Some ActivatePin) s = None
 question_of (Some DeactivatePin) s = None
-question_of (Some VerifyAuxiliary) s = None
 question_of (Some NoProtocol) s = None
 question_of (Some NoStep) s = None
 

@@ -23,7 +23,8 @@ one_name (value ∷ other ∷ later) = None
 unfoldable pub key_name_in : List ℕ → Option (List ℕ)
 key_name_in body = option_and_then (λ list. one_name (values 0x83 list)) (list_in body)
 
--- ---- GENERAL AUTHENTICATE: dynamic authentication data, one object 7C, which is empty or holds one object
+-- ---- GENERAL AUTHENTICATE of PACE and of chip authentication: dynamic authentication data, one object 7C, which is empty
+-- or holds one object
 
 -- 7C, and in it an object with this tag and value
 unfoldable pub authentication_data : ℕ → List ℕ → List ℕ

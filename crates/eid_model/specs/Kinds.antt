@@ -4,9 +4,10 @@ use Rattle.std.specs.Prelude.{ℕ, ◌+◌, ◌*◌, Bool, true, false, ◌==◌
 use Rattle.std.specs.List.{list_any}
 use Rattle.eid_apdu.specs.Command.{PlainCommand}
 use Rattle.eid_apdu.specs.Chaining.{is_fragment}
-use Rattle.eid_ca.specs.Selections.{chosen_in}
+use Rattle.eid_bits.specs.declared.identifier.Known.TheVariants.{RiSha256}
+use Rattle.eid_ca.specs.Selections.{chosen_in, names}
 use Rattle.eid_model.specs.declared.kind.Kind.{Kind}
-use Rattle.eid_model.specs.declared.kind.Kind.TheVariants.{SelectApplication, SelectMasterFile, SelectFile, ReadBinary, UpdateBinary, SelectPace, SelectPublicKey, VerifyCertificate, AnnounceTerminal, GetChallenge, ExternalAuthenticate, SelectChipAuthentication, EncryptedNonce, MapNonce, PerformKeyAgreement, MutualAuthentication, AuthenticateChip, ChangePin, UnblockPin, ChangeCan, ActivatePin, DeactivatePin, VerifyAuxiliary, NoProtocol, NoStep}
+use Rattle.eid_model.specs.declared.kind.Kind.TheVariants.{SelectApplication, SelectMasterFile, SelectFile, ReadBinary, UpdateBinary, SelectPace, SelectPublicKey, VerifyCertificate, AnnounceTerminal, GetChallenge, ExternalAuthenticate, SelectChipAuthentication, SelectRestrictedIdentification, EncryptedNonce, MapNonce, PerformKeyAgreement, MutualAuthentication, AuthenticateChip, PerformRestrictedIdentification, VerifyAuxiliary, ChangePin, UnblockPin, ChangeCan, ActivatePin, DeactivatePin, NoProtocol, NoStep}
 
 -- the kinds by number, in the order of the table
 abbrev pub number_of : Kind → ℕ
@@ -22,19 +23,21 @@ number_of AnnounceTerminal = 8
 number_of GetChallenge = 9
 number_of ExternalAuthenticate = 10
 number_of SelectChipAuthentication = 11
-number_of EncryptedNonce = 12
-number_of MapNonce = 13
-number_of PerformKeyAgreement = 14
-number_of MutualAuthentication = 15
-number_of AuthenticateChip = 16
-number_of ChangePin = 17
-number_of UnblockPin = 18
-number_of ChangeCan = 19
-number_of ActivatePin = 20
-number_of DeactivatePin = 21
-number_of VerifyAuxiliary = 22
-number_of NoProtocol = 23
-number_of NoStep = 24
+number_of SelectRestrictedIdentification = 12
+number_of EncryptedNonce = 13
+number_of MapNonce = 14
+number_of PerformKeyAgreement = 15
+number_of MutualAuthentication = 16
+number_of AuthenticateChip = 17
+number_of PerformRestrictedIdentification = 18
+number_of VerifyAuxiliary = 19
+number_of ChangePin = 20
+number_of UnblockPin = 21
+number_of ChangeCan = 22
+number_of ActivatePin = 23
+number_of DeactivatePin = 24
+number_of NoProtocol = 25
+number_of NoStep = 26
 
 abbrev pub same_kind : Kind → Kind → Bool
 same_kind a b = number_of a == number_of b
@@ -68,6 +71,10 @@ in_turn kind (Some next) body = same_kind kind next
 abbrev pub with_protocol : Option Kind → List ℕ → Bool
 with_protocol next body = is_some (chosen_in body)
 
+-- and one of restricted identification where it names that
+abbrev pub with_identification : Option Kind → List ℕ → Bool
+with_identification next body = names RiSha256 body
+
 abbrev pub kinds : List KindRow
 kinds =
     record { kind = SelectApplication; classes = 0x00 ∷ []; instruction = 0xA4; parameters = λ p. p == 0x040C; comes = always } ∷
@@ -82,17 +89,19 @@ kinds =
     record { kind = GetChallenge; classes = 0x00 ∷ []; instruction = 0x84; parameters = λ p. p == 0; comes = in_turn GetChallenge } ∷
     record { kind = ExternalAuthenticate; classes = 0x00 ∷ []; instruction = 0x82; parameters = λ p. p == 0; comes = in_turn ExternalAuthenticate } ∷
     record { kind = SelectChipAuthentication; classes = 0x00 ∷ 0x10 ∷ []; instruction = 0x22; parameters = λ p. p == 0x41A4; comes = with_protocol } ∷
+    record { kind = SelectRestrictedIdentification; classes = 0x00 ∷ 0x10 ∷ []; instruction = 0x22; parameters = λ p. p == 0x41A4; comes = with_identification } ∷
     record { kind = EncryptedNonce; classes = 0x10 ∷ []; instruction = 0x86; parameters = λ p. p == 0; comes = in_turn EncryptedNonce } ∷
     record { kind = MapNonce; classes = 0x10 ∷ []; instruction = 0x86; parameters = λ p. p == 0; comes = in_turn MapNonce } ∷
     record { kind = PerformKeyAgreement; classes = 0x10 ∷ []; instruction = 0x86; parameters = λ p. p == 0; comes = in_turn PerformKeyAgreement } ∷
     record { kind = MutualAuthentication; classes = 0x00 ∷ []; instruction = 0x86; parameters = λ p. p == 0; comes = in_turn MutualAuthentication } ∷
     record { kind = AuthenticateChip; classes = 0x00 ∷ []; instruction = 0x86; parameters = λ p. p == 0; comes = in_turn AuthenticateChip } ∷
+    record { kind = PerformRestrictedIdentification; classes = 0x00 ∷ []; instruction = 0x86; parameters = λ p. p == 0; comes = in_turn PerformRestrictedIdentification } ∷
+    record { kind = VerifyAuxiliary; classes = 0x80 ∷ []; instruction = 0x20; parameters = λ p. p == 0x8000; comes = always } ∷
     record { kind = ChangePin; classes = 0x00 ∷ []; instruction = 0x2C; parameters = λ p. p == 0x0203; comes = always } ∷
     record { kind = UnblockPin; classes = 0x00 ∷ []; instruction = 0x2C; parameters = λ p. p == 0x0303; comes = always } ∷
     record { kind = ChangeCan; classes = 0x00 ∷ []; instruction = 0x2C; parameters = λ p. p == 0x0202; comes = always } ∷
     record { kind = ActivatePin; classes = 0x00 ∷ []; instruction = 0x44; parameters = λ p. p == 0x1003; comes = always } ∷
     record { kind = DeactivatePin; classes = 0x00 ∷ []; instruction = 0x04; parameters = λ p. p == 0x1003; comes = always } ∷
-    record { kind = VerifyAuxiliary; classes = 0x80 ∷ []; instruction = 0x20; parameters = λ p. p == 0x8000; comes = always } ∷
     -- an MSE:Set AT that names no protocol of its parameters
     record { kind = NoProtocol; classes = 0x00 ∷ []; instruction = 0x22; parameters = λ p. p == 0x41A4; comes = always } ∷
     -- a step that the run has not come to
@@ -139,17 +148,19 @@ step_after AnnounceTerminal = Some GetChallenge
 step_after GetChallenge = Some ExternalAuthenticate
 step_after ExternalAuthenticate = None
 step_after SelectChipAuthentication = Some AuthenticateChip
+step_after SelectRestrictedIdentification = Some PerformRestrictedIdentification
 step_after EncryptedNonce = Some MapNonce
 step_after MapNonce = Some PerformKeyAgreement
 step_after PerformKeyAgreement = Some MutualAuthentication
 step_after MutualAuthentication = None
 step_after AuthenticateChip = None
+step_after PerformRestrictedIdentification = None
+step_after VerifyAuxiliary = None
 step_after ChangePin = None
 step_after UnblockPin = None
 step_after ChangeCan = None
 step_after ActivatePin = None
 step_after DeactivatePin = None
-step_after VerifyAuxiliary = None
 step_after NoProtocol = None
 step_after NoStep = None
 
@@ -167,17 +178,19 @@ begins_run AnnounceTerminal = true
 begins_run GetChallenge = false
 begins_run ExternalAuthenticate = false
 begins_run SelectChipAuthentication = true
+begins_run SelectRestrictedIdentification = true
 begins_run EncryptedNonce = false
 begins_run MapNonce = false
 begins_run PerformKeyAgreement = false
 begins_run MutualAuthentication = false
 begins_run AuthenticateChip = false
+begins_run PerformRestrictedIdentification = false
+begins_run VerifyAuxiliary = false
 begins_run ChangePin = false
 begins_run UnblockPin = false
 begins_run ChangeCan = false
 begins_run ActivatePin = false
 begins_run DeactivatePin = false
-begins_run VerifyAuxiliary = false
 begins_run NoProtocol = false
 begins_run NoStep = false
 
@@ -194,17 +207,19 @@ goes_on_in_run AnnounceTerminal = false
 goes_on_in_run GetChallenge = true
 goes_on_in_run ExternalAuthenticate = true
 goes_on_in_run SelectChipAuthentication = false
+goes_on_in_run SelectRestrictedIdentification = false
 goes_on_in_run EncryptedNonce = true
 goes_on_in_run MapNonce = true
 goes_on_in_run PerformKeyAgreement = true
 goes_on_in_run MutualAuthentication = true
 goes_on_in_run AuthenticateChip = true
+goes_on_in_run PerformRestrictedIdentification = true
+goes_on_in_run VerifyAuxiliary = false
 goes_on_in_run ChangePin = false
 goes_on_in_run UnblockPin = false
 goes_on_in_run ChangeCan = false
 goes_on_in_run ActivatePin = false
 goes_on_in_run DeactivatePin = false
-goes_on_in_run VerifyAuxiliary = false
 goes_on_in_run NoProtocol = false
 goes_on_in_run NoStep = false
 

@@ -1,13 +1,13 @@
 -- The words of the laws: what the newest moment was, by looking back over a journal (BSI TR-03110-2, TR-03110-3), and when
--- a data group is answered (BSI TR-03110-4).
+-- a data group, a comparison and an identifier are answered (BSI TR-03110-4).
 use Rattle.std.specs.Prelude.{◌≡◌, ℕ, ◌+◌, Bool, true, false, not, ◌==◌, ◌&&◌, ◌||◌, List, [], ◌∷◌, ◌++◌, Option, Some, None, is_some, option_and_then, if◌then◌else◌}
 use Rattle.std.specs.List.{list_all, list_any}
 use Rattle.eid_apdu.specs.Command.{PlainCommand}
-use Rattle.eid_bits.specs.Date.{is_between}
+use Rattle.eid_files.specs.Names.{data_group_of}
 use Rattle.eid_record.specs.Plain.{FullRecord, PlainEffect, Spend, Refill, Unblock, SetPin, SetCan, Active, Advance, Write}
 use Rattle.eid_password.specs.Passwords.{is_pin}
 use Rattle.eid_model.specs.declared.kind.Kind.{Kind}
-use Rattle.eid_model.specs.declared.kind.Kind.TheVariants.{MutualAuthentication, ReadBinary, VerifyAuxiliary}
+use Rattle.eid_model.specs.declared.kind.Kind.TheVariants.{MutualAuthentication, PerformRestrictedIdentification, ReadBinary, VerifyAuxiliary}
 use Rattle.eid_model.specs.Kinds.{same_kind, kind_named}
 use Rattle.eid_model.specs.Moments.{PlainMoment, live}
 use Rattle.eid_model.specs.Chains.{request_of}
@@ -18,7 +18,9 @@ use Rattle.eid_model.specs.Runs.{answers_of, run, next, Phase, Idle, Chose, Sent
 use Rattle.eid_model.specs.declared.comparison.Comparison.{Comparison}
 use Rattle.eid_model.specs.declared.comparison.Comparison.TheVariants.{Age, Validity, Community}
 use Rattle.eid_model.specs.Auxiliary.{comparison_in}
-use Rattle.eid_model.specs.Rules.{AGE_VERIFICATION, COMMUNITY_VERIFICATION, OfCommand, RuleRow, Situation, answer_rules, chain_gave, commit_rules, concerns, file_meant, group_of, holder_gave, is_of, proof_rules, proves_pin}
+use Rattle.eid_ri.specs.SectorKeys.{PlainSectorKeys}
+use Rattle.eid_ri.specs.SectorKeysIn.{sector_keys_in}
+use Rattle.eid_model.specs.Rules.{AGE_VERIFICATION, COMMUNITY_VERIFICATION, OfCommand, RuleRow, Situation, answer_rules, chain_gave, commit_rules, concerns, file_meant, holder_gave, is_by_holder, is_of, proof_rules, proves_pin}
 
 -- the kind of the request that ended with the newest moment, whether it was carried out or not
 abbrev pub kind_sent : PlainMoment → List PlainMoment → Option Kind
@@ -74,22 +76,20 @@ goes_on_with_pin (ChoseKey name) = false
 abbrev pub sent_at : FullRecord → List PlainMoment → PlainCommand → PlainMoment → Situation
 sent_at opening before c m = situation_after opening before (OfCommand c) (answers_of m.asks)
 
--- the number of the data group that a file is: 1 to 21
-abbrev pub data_group : ℕ → Option ℕ
-data_group file = if is_between 1 21 (group_of file) then Some (group_of file) else None
-
 -- the data group that a READ BINARY reads
 abbrev pub group_read : Situation → Option ℕ
-group_read s = if is_of ReadBinary s.kind then option_and_then data_group (file_meant s) else None
+group_read s = if is_of ReadBinary s.kind then option_and_then data_group_of (file_meant s) else None
 
--- The session has completed PACE, terminal authentication and chip authentication, and this right stands in the template that
--- the holder gave in that PACE, and in those of the trust point, the document verifier and the terminal.
-pub record IsAuthorised (s : State) (bit : ℕ) : Type 0 where
+-- The session has completed PACE, terminal authentication and chip authentication.
+pub record HasCompleted (s : State) : Type 0 where
   pub pace : is_some s.pace ≡ true
   pub terminal : is_some s.terminal ≡ true
   pub chip : s.chip_proven ≡ true
-  pub holder : holder_gave s.pace bit ≡ true
-  pub chain : chain_gave s.certificates bit ≡ true
+
+-- the right stands in the template that the holder gave in that PACE, and in those of the trust point, the document verifier
+-- and the terminal
+abbrev pub HasRight : State → ℕ → Type 0
+HasRight s bit = (holder_gave s.pace bit ≡ true) × (chain_gave s.certificates bit ≡ true)
 
 -- all rules, in their order
 abbrev pub all_rules : List RuleRow
@@ -114,12 +114,8 @@ abbrev pub comparison_asked : Situation → Option Comparison
 comparison_asked s = if is_of VerifyAuxiliary s.kind then comparison_in s.command.body else None
 
 -- a comparison is answered by yes, or by no: that is rule 36
-abbrev pub is_compared_by : ℕ → Bool
-is_compared_by rule = rule == 0 || rule == 36
-
--- the right stands in the template that the holder gave, and in those of the trust point, the document verifier and the terminal
-abbrev pub HasRight : State → ℕ → Type 0
-HasRight s bit = (holder_gave s.pace bit ≡ true) × (chain_gave s.certificates bit ≡ true)
+abbrev pub tells_comparison : ℕ → Bool
+tells_comparison rule = rule == 0 || rule == 36
 
 -- the right that a comparison takes; that of the validity takes none
 abbrev pub HasItsRight : State → Comparison → Type 0
@@ -127,13 +123,18 @@ HasItsRight s Age = HasRight s AGE_VERIFICATION
 HasItsRight s Validity = Unit {0}
 HasItsRight s Community = HasRight s COMMUNITY_VERIFICATION
 
--- The session has completed PACE, terminal authentication and chip authentication, and the comparison's right is there.
-pub record IsServed (s : State) (comparison : Comparison) : Type 0 where
-  pub pace : is_some s.pace ≡ true
-  pub terminal : is_some s.terminal ≡ true
-  pub chip : s.chip_proven ≡ true
-  pub right : HasItsRight s comparison
-
 -- all other rules that concern the kind hold, but that the comparison is a yes
 abbrev pub others_hold_but_36 : Situation → Bool
 others_hold_but_36 s = list_all (λ row. is_on_access row.number || row.number == 36 || is_kept s row) all_rules
+
+-- ---- identifiers in sectors
+
+-- the sector keys for which restricted identification asks
+abbrev pub sectors_asked : Situation → Option PlainSectorKeys
+sectors_asked s = if is_of PerformRestrictedIdentification s.kind then sector_keys_in s.command.body else None
+
+-- The conditions of the selection with which its run began, beside those on access: PACE was with the PIN, or with the CAN
+-- where that is allowed, and the application is selected. The run is the selection and this step, and nothing between them.
+pub record SelectionHolds (s : State) : Type 0 where
+  pub holder : is_by_holder s ≡ true
+  pub selected : s.selected ≡ true

@@ -5,6 +5,7 @@ pub mod Bodies
 pub mod Runs
 pub mod Sessions
 pub mod Auxiliary
+pub mod Sectors
 pub mod Rules
 pub mod Answers
 pub mod Legal

@@ -19,13 +19,15 @@ use Rattle.eid_ta.specs.AnnouncementIn.{announcement_in}
 use Rattle.eid_ta.specs.Rules.{chain_rule, name_rule}
 use Rattle.eid_cvc.specs.PublicKeys.{x_half}
 use Rattle.eid_ca.specs.Rules.{other_key_rule}
-use Rattle.eid_ca.specs.Selections.{chosen_in}
+use Rattle.eid_bits.specs.declared.identifier.Known.TheVariants.{RiSha256}
+use Rattle.eid_ca.specs.Selections.{chosen_in, names}
+use Rattle.eid_ri.specs.SectorKeysIn.{sector_keys_in}
 use Rattle.eid_trust.specs.Trust.{selected_rule, role_rule, link_rule, expiry_rule, signer_of, is_issued_by, may_sign, is_link, is_of_current, is_in_date, advance}
 use Rattle.eid_record.specs.Reading.{is_ascii_digit}
 use Rattle.eid_record.specs.declared.fields.Password.{Password}
 use Rattle.eid_password.specs.Passwords.{is_can, is_pin, is_puk, has_try, is_resumed, active_rule, try_rule, resumed_rule}
 use Rattle.eid_model.specs.declared.kind.Kind.{Kind}
-use Rattle.eid_model.specs.declared.kind.Kind.TheVariants.{SelectApplication, SelectMasterFile, SelectFile, ReadBinary, UpdateBinary, SelectPace, SelectPublicKey, VerifyCertificate, AnnounceTerminal, GetChallenge, ExternalAuthenticate, SelectChipAuthentication, EncryptedNonce, MapNonce, PerformKeyAgreement, MutualAuthentication, AuthenticateChip, ChangePin, UnblockPin, ChangeCan, ActivatePin, DeactivatePin, VerifyAuxiliary, NoProtocol, NoStep}
+use Rattle.eid_model.specs.declared.kind.Kind.TheVariants.{SelectApplication, SelectMasterFile, SelectFile, ReadBinary, UpdateBinary, SelectPace, SelectPublicKey, VerifyCertificate, AnnounceTerminal, GetChallenge, ExternalAuthenticate, SelectChipAuthentication, SelectRestrictedIdentification, EncryptedNonce, MapNonce, PerformKeyAgreement, MutualAuthentication, AuthenticateChip, PerformRestrictedIdentification, VerifyAuxiliary, ChangePin, UnblockPin, ChangeCan, ActivatePin, DeactivatePin, NoProtocol, NoStep}
 use Rattle.eid_model.specs.Kinds.{same_kind, kinds, has_instruction, has_parameters, is_by_short, application_id}
 use Rattle.eid_files.specs.Names.{card_access, card_security, file_of_id, file_of_short}
 use Rattle.eid_files.specs.Ranges.{end_rule, offset_rule}
@@ -36,6 +38,7 @@ use Rattle.eid_pace.specs.Check.{terminal_token}
 use Rattle.eid_pace.specs.Selections.{PlainSelection, password_named}
 use Rattle.eid_pace.specs.SelectionIn.{selection_in}
 use Rattle.eid_model.specs.Bodies.{no_data, data_in, holds_value, holds_point, key_name_in}
+use Rattle.eid_model.specs.Sectors.{are_its_sectors}
 use Rattle.eid_model.specs.Auxiliary.{comparison_in, compared_of, has_reference, has_sent, is_yes}
 use Rattle.eid_model.specs.declared.comparison.Comparison.{Comparison}
 use Rattle.eid_model.specs.declared.comparison.Comparison.TheVariants.{Age, Validity, Community}
@@ -108,17 +111,19 @@ is_formed (Some AnnounceTerminal) body = is_some (announcement_in body)
 is_formed (Some GetChallenge) body = length body == 0
 is_formed (Some ExternalAuthenticate) body = length body == SIGNATURE_SIZE
 is_formed (Some SelectChipAuthentication) body = is_some (chosen_in body)
+is_formed (Some SelectRestrictedIdentification) body = names RiSha256 body
 is_formed (Some EncryptedNonce) body = bytes_eq body no_data
 is_formed (Some MapNonce) body = holds_point 0x81 body
 is_formed (Some PerformKeyAgreement) body = holds_point 0x83 body
 is_formed (Some MutualAuthentication) body = holds_value 0x85 8 body
 is_formed (Some AuthenticateChip) body = holds_point 0x80 body
+is_formed (Some PerformRestrictedIdentification) body = is_some (sector_keys_in body)
+is_formed (Some VerifyAuxiliary) body = is_some (comparison_in body)
 is_formed (Some ChangePin) body = length body == PIN_SIZE && list_all is_ascii_digit body
 is_formed (Some UnblockPin) body = length body == 0
 is_formed (Some ChangeCan) body = length body == PIN_SIZE && list_all is_ascii_digit body
 is_formed (Some ActivatePin) body = length body == 0
 is_formed (Some DeactivatePin) body = length body == 0
-is_formed (Some VerifyAuxiliary) body = is_some (comparison_in body)
 is_formed (Some NoProtocol) body = false
 is_formed (Some NoStep) body = true
 
@@ -145,17 +150,19 @@ is_named (Some AnnounceTerminal) s = true
 is_named (Some GetChallenge) s = true
 is_named (Some ExternalAuthenticate) s = true
 is_named (Some SelectChipAuthentication) s = true
+is_named (Some SelectRestrictedIdentification) s = true
 is_named (Some EncryptedNonce) s = true
 is_named (Some MapNonce) s = true
 is_named (Some PerformKeyAgreement) s = true
 is_named (Some MutualAuthentication) s = true
 is_named (Some AuthenticateChip) s = true
+is_named (Some PerformRestrictedIdentification) s = true
+is_named (Some VerifyAuxiliary) s = true
 is_named (Some ChangePin) s = true
 is_named (Some UnblockPin) s = true
 is_named (Some ChangeCan) s = true
 is_named (Some ActivatePin) s = true
 is_named (Some DeactivatePin) s = true
-is_named (Some VerifyAuxiliary) s = true
 is_named (Some NoProtocol) s = true
 is_named (Some NoStep) s = true
 
@@ -180,9 +187,9 @@ abbrev pub is_card_access : Option ℕ → Bool
 is_card_access None = false
 is_card_access (Some file) = file == card_access
 
-abbrev pub is_data_group : Option ℕ → Bool
-is_data_group None = false
-is_data_group (Some file) = nat_lt card_security file
+abbrev pub is_group_file : Option ℕ → Bool
+is_group_file None = false
+is_group_file (Some file) = nat_lt card_security file
 
 -- the reference names a password
 abbrev pub names_password : Option PlainSelection → Bool
@@ -232,17 +239,19 @@ reads_card_access (Some AnnounceTerminal) file = false
 reads_card_access (Some GetChallenge) file = false
 reads_card_access (Some ExternalAuthenticate) file = false
 reads_card_access (Some SelectChipAuthentication) file = false
+reads_card_access (Some SelectRestrictedIdentification) file = false
 reads_card_access (Some EncryptedNonce) file = false
 reads_card_access (Some MapNonce) file = false
 reads_card_access (Some PerformKeyAgreement) file = false
 reads_card_access (Some MutualAuthentication) file = false
 reads_card_access (Some AuthenticateChip) file = false
+reads_card_access (Some PerformRestrictedIdentification) file = false
+reads_card_access (Some VerifyAuxiliary) file = false
 reads_card_access (Some ChangePin) file = false
 reads_card_access (Some UnblockPin) file = false
 reads_card_access (Some ChangeCan) file = false
 reads_card_access (Some ActivatePin) file = false
 reads_card_access (Some DeactivatePin) file = false
-reads_card_access (Some VerifyAuxiliary) file = false
 reads_card_access (Some NoProtocol) file = false
 reads_card_access (Some NoStep) file = false
 
@@ -261,17 +270,19 @@ may_manage (Some AnnounceTerminal) pace = false
 may_manage (Some GetChallenge) pace = false
 may_manage (Some ExternalAuthenticate) pace = false
 may_manage (Some SelectChipAuthentication) pace = false
+may_manage (Some SelectRestrictedIdentification) pace = false
 may_manage (Some EncryptedNonce) pace = false
 may_manage (Some MapNonce) pace = false
 may_manage (Some PerformKeyAgreement) pace = false
 may_manage (Some MutualAuthentication) pace = false
 may_manage (Some AuthenticateChip) pace = false
+may_manage (Some PerformRestrictedIdentification) pace = false
+may_manage (Some VerifyAuxiliary) pace = false
 may_manage (Some ChangePin) pace = was_with is_pin pace
 may_manage (Some UnblockPin) pace = was_with is_puk pace
 may_manage (Some ChangeCan) pace = false
 may_manage (Some ActivatePin) pace = false
 may_manage (Some DeactivatePin) pace = false
-may_manage (Some VerifyAuxiliary) pace = false
 may_manage (Some NoProtocol) pace = false
 may_manage (Some NoStep) pace = false
 
@@ -335,13 +346,13 @@ is_of kind None = false
 is_of kind (Some other) = same_kind kind other
 
 -- the command is one for a terminal that has authenticated itself, after which the chip has: it reads a data group, writes,
--- or manages the PIN or the CAN
+-- compares, begins restricted identification, or manages the PIN or the CAN
 abbrev pub is_for_terminal : Option Kind → Option ℕ → Bool
 is_for_terminal None file = false
 is_for_terminal (Some SelectApplication) file = false
 is_for_terminal (Some SelectMasterFile) file = false
 is_for_terminal (Some SelectFile) file = false
-is_for_terminal (Some ReadBinary) file = is_data_group file
+is_for_terminal (Some ReadBinary) file = is_group_file file
 is_for_terminal (Some UpdateBinary) file = true
 is_for_terminal (Some SelectPace) file = false
 is_for_terminal (Some SelectPublicKey) file = false
@@ -350,17 +361,19 @@ is_for_terminal (Some AnnounceTerminal) file = false
 is_for_terminal (Some GetChallenge) file = false
 is_for_terminal (Some ExternalAuthenticate) file = false
 is_for_terminal (Some SelectChipAuthentication) file = false
+is_for_terminal (Some SelectRestrictedIdentification) file = true
 is_for_terminal (Some EncryptedNonce) file = false
 is_for_terminal (Some MapNonce) file = false
 is_for_terminal (Some PerformKeyAgreement) file = false
 is_for_terminal (Some MutualAuthentication) file = false
 is_for_terminal (Some AuthenticateChip) file = false
+is_for_terminal (Some PerformRestrictedIdentification) file = false
+is_for_terminal (Some VerifyAuxiliary) file = true
 is_for_terminal (Some ChangePin) file = false
 is_for_terminal (Some UnblockPin) file = false
 is_for_terminal (Some ChangeCan) file = true
 is_for_terminal (Some ActivatePin) file = true
 is_for_terminal (Some DeactivatePin) file = true
-is_for_terminal (Some VerifyAuxiliary) file = true
 is_for_terminal (Some NoProtocol) file = false
 is_for_terminal (Some NoStep) file = false
 
@@ -397,6 +410,9 @@ AGE_VERIFICATION = 0
 
 abbrev pub COMMUNITY_VERIFICATION : ℕ
 COMMUNITY_VERIFICATION = 1
+
+abbrev pub RESTRICTED_IDENTIFICATION : ℕ
+RESTRICTED_IDENTIFICATION = 2
 
 abbrev pub CAN_ALLOWED : ℕ
 CAN_ALLOWED = 4
@@ -445,17 +461,19 @@ has_its_right (Some AnnounceTerminal) file comparison s = false
 has_its_right (Some GetChallenge) file comparison s = false
 has_its_right (Some ExternalAuthenticate) file comparison s = false
 has_its_right (Some SelectChipAuthentication) file comparison s = false
+has_its_right (Some SelectRestrictedIdentification) file comparison s = is_granted s RESTRICTED_IDENTIFICATION
 has_its_right (Some EncryptedNonce) file comparison s = false
 has_its_right (Some MapNonce) file comparison s = false
 has_its_right (Some PerformKeyAgreement) file comparison s = false
 has_its_right (Some MutualAuthentication) file comparison s = false
 has_its_right (Some AuthenticateChip) file comparison s = false
+has_its_right (Some PerformRestrictedIdentification) file comparison s = false
+has_its_right (Some VerifyAuxiliary) file comparison s = may_compare s comparison
 has_its_right (Some ChangePin) file comparison s = false
 has_its_right (Some UnblockPin) file comparison s = false
 has_its_right (Some ChangeCan) file comparison s = is_granted s PIN_MANAGEMENT
 has_its_right (Some ActivatePin) file comparison s = is_granted s PIN_MANAGEMENT
 has_its_right (Some DeactivatePin) file comparison s = is_granted s PIN_MANAGEMENT
-has_its_right (Some VerifyAuxiliary) file comparison s = may_compare s comparison
 has_its_right (Some NoProtocol) file comparison s = false
 has_its_right (Some NoStep) file comparison s = false
 
@@ -511,17 +529,19 @@ to_commit (Some AnnounceTerminal) s = []
 to_commit (Some GetChallenge) s = []
 to_commit (Some ExternalAuthenticate) s = []
 to_commit (Some SelectChipAuthentication) s = []
+to_commit (Some SelectRestrictedIdentification) s = []
 to_commit (Some EncryptedNonce) s = []
 to_commit (Some MapNonce) s = []
 to_commit (Some PerformKeyAgreement) s = []
 to_commit (Some MutualAuthentication) s = token_effects (proves_pin s.state.phase) (is_token (data_in s.command.body) s.state.phase)
 to_commit (Some AuthenticateChip) s = []
+to_commit (Some PerformRestrictedIdentification) s = []
+to_commit (Some VerifyAuxiliary) s = []
 to_commit (Some ChangePin) s = SetPin s.command.body ∷ []
 to_commit (Some UnblockPin) s = Unblock (was_with is_puk s.state.pace) ∷ []
 to_commit (Some ChangeCan) s = SetCan s.command.body ∷ []
 to_commit (Some ActivatePin) s = Active true ∷ []
 to_commit (Some DeactivatePin) s = Active false ∷ []
-to_commit (Some VerifyAuxiliary) s = []
 to_commit (Some NoProtocol) s = []
 to_commit (Some NoStep) s = []
 
@@ -546,7 +566,7 @@ token_status kept pin = if pin then 0x63C0 + (applied Spend kept).tries else 0x6
 
 -- the kinds that need a terminal which has authenticated itself, after which the chip has; of READ BINARY those of data groups
 abbrev pub for_terminals : List Kind
-for_terminals = ReadBinary ∷ UpdateBinary ∷ ChangeCan ∷ ActivatePin ∷ DeactivatePin ∷ VerifyAuxiliary ∷ []
+for_terminals = ReadBinary ∷ UpdateBinary ∷ SelectRestrictedIdentification ∷ VerifyAuxiliary ∷ ChangeCan ∷ ActivatePin ∷ DeactivatePin ∷ []
 
 -- whether the command can be incoming at all
 abbrev pub transport_rules : List RuleRow
@@ -606,8 +626,8 @@ kind_rules =
     record {
       number = 20;
       status = fixed 0x6982;
-      kinds = ReadBinary ∷ UpdateBinary ∷ SelectPublicKey ∷ AnnounceTerminal ∷ SelectChipAuthentication ∷ ChangePin ∷ UnblockPin ∷ ChangeCan ∷
-          ActivatePin ∷ DeactivatePin ∷ VerifyAuxiliary ∷ [];
+      kinds = ReadBinary ∷ UpdateBinary ∷ SelectPublicKey ∷ AnnounceTerminal ∷ SelectChipAuthentication ∷ SelectRestrictedIdentification ∷
+          VerifyAuxiliary ∷ ChangePin ∷ UnblockPin ∷ ChangeCan ∷ ActivatePin ∷ DeactivatePin ∷ [];
       holds = λ s. reads_card_access s.kind (file_meant s) || is_some s.state.pace;
     } ∷
     -- in that PACE the holder gave a template
@@ -634,7 +654,7 @@ kind_rules =
     record {
       number = 26;
       status = fixed 0x6982;
-      kinds = ReadBinary ∷ UpdateBinary ∷ SelectChipAuthentication ∷ ChangeCan ∷ ActivatePin ∷ DeactivatePin ∷ VerifyAuxiliary ∷ [];
+      kinds = SelectChipAuthentication ∷ for_terminals;
       holds = λ s. not (wants_terminal s.kind (file_meant s)) || is_some s.state.terminal;
     } ∷
     -- no chip authentication succeeded after it
@@ -666,7 +686,7 @@ kind_rules =
     record {
       number = 32;
       status = fixed 0x6985;
-      kinds = ReadBinary ∷ UpdateBinary ∷ VerifyAuxiliary ∷ [];
+      kinds = ReadBinary ∷ UpdateBinary ∷ SelectRestrictedIdentification ∷ VerifyAuxiliary ∷ [];
       holds = λ s. not (is_for_terminal s.kind (file_meant s)) || s.state.selected;
     } ∷
     -- its right is granted
@@ -707,6 +727,13 @@ kind_rules =
       status = fixed 0x6A84;
       kinds = UpdateBinary ∷ [];
       holds = λ s. nat_le (offset_meant s.command + length s.command.body) (length (unwrap_or (bytes_of_file s.kept (file_meant s)) []));
+    } ∷
+    -- the sector keys are those of the terminal, by their hashes
+    record {
+      number = 40;
+      status = fixed 0x6300;
+      kinds = PerformRestrictedIdentification ∷ [];
+      holds = λ s. are_its_sectors s.state.certificates.sectors (sector_keys_in s.command.body);
     } ∷
     -- the terminal's point is the one that it announced
     record {
@@ -752,7 +779,12 @@ answer_rules =
     -- the terminal's ephemeral point differs from the chip's
     record { number = 51; status = fixed 0x6300; kinds = PerformKeyAgreement ∷ []; holds = λ s. not (is_own_point (data_in s.command.body) s.answers) } ∷
     -- no question was answered with no point
-    record { number = 52; status = fixed 0x6A80; kinds = MapNonce ∷ PerformKeyAgreement ∷ AuthenticateChip ∷ []; holds = λ s. not (list_any is_no_point s.answers) } ∷
+    record {
+      number = 52;
+      status = fixed 0x6A80;
+      kinds = MapNonce ∷ PerformKeyAgreement ∷ AuthenticateChip ∷ PerformRestrictedIdentification ∷ [];
+      holds = λ s. not (list_any is_no_point s.answers);
+    } ∷
     -- the signature was not found wrong
     record { number = 53; status = fixed 0x6300; kinds = VerifyCertificate ∷ ExternalAuthenticate ∷ []; holds = λ s. not (list_any is_wrong s.answers) } ∷ []
 

@@ -16,7 +16,7 @@ use Rattle.eid_ta.specs.AnnouncementIn.{announcement_in}
 use Rattle.eid_ca.specs.States.{PlainCaChosen}
 use Rattle.eid_ca.specs.Selections.{chosen_in, chosen_by as chip_chosen_by}
 use Rattle.eid_model.specs.declared.kind.Kind.{Kind}
-use Rattle.eid_model.specs.declared.kind.Kind.TheVariants.{SelectApplication, SelectMasterFile, SelectFile, ReadBinary, UpdateBinary, SelectPace, SelectPublicKey, VerifyCertificate, AnnounceTerminal, GetChallenge, ExternalAuthenticate, SelectChipAuthentication, EncryptedNonce, MapNonce, PerformKeyAgreement, MutualAuthentication, AuthenticateChip, ChangePin, UnblockPin, ChangeCan, ActivatePin, DeactivatePin, VerifyAuxiliary, NoProtocol, NoStep}
+use Rattle.eid_model.specs.declared.kind.Kind.TheVariants.{SelectApplication, SelectMasterFile, SelectFile, ReadBinary, UpdateBinary, SelectPace, SelectPublicKey, VerifyCertificate, AnnounceTerminal, GetChallenge, ExternalAuthenticate, SelectChipAuthentication, SelectRestrictedIdentification, EncryptedNonce, MapNonce, PerformKeyAgreement, MutualAuthentication, AuthenticateChip, PerformRestrictedIdentification, VerifyAuxiliary, ChangePin, UnblockPin, ChangeCan, ActivatePin, DeactivatePin, NoProtocol, NoStep}
 use Rattle.eid_model.specs.Kinds.{kind_named, has_form_of, step_after, begins_run, goes_on_in_run}
 use Rattle.eid_model.specs.Moments.{PlainMoment, succeeded}
 use Rattle.eid_model.specs.Chains.{fragment, request_of}
@@ -116,17 +116,19 @@ entered AnnounceTerminal c answers before = Idle
 entered GetChallenge c answers before = Idle
 entered ExternalAuthenticate c answers before = Idle
 entered SelectChipAuthentication c answers before = Idle
+entered SelectRestrictedIdentification c answers before = Idle
 entered EncryptedNonce c answers before = with_nonce answers before
 entered MapNonce c answers before = with_base answers before
 entered PerformKeyAgreement c answers before = with_secret (data_in c.body) answers before
 entered MutualAuthentication c answers before = Idle
 entered AuthenticateChip c answers before = Idle
+entered PerformRestrictedIdentification c answers before = Idle
+entered VerifyAuxiliary c answers before = Idle
 entered ChangePin c answers before = Idle
 entered UnblockPin c answers before = Idle
 entered ChangeCan c answers before = Idle
 entered ActivatePin c answers before = Idle
 entered DeactivatePin c answers before = Idle
-entered VerifyAuxiliary c answers before = Idle
 entered NoProtocol c answers before = Idle
 entered NoStep c answers before = Idle
 
@@ -191,17 +193,19 @@ claimed AnnounceTerminal c answers context before = as_announced context.identit
 claimed GetChallenge c answers context before = with_challenge answers before
 claimed ExternalAuthenticate c answers context before = NotBegun
 claimed SelectChipAuthentication c answers context before = as_protocol (protocol_of context.terminal c.body)
+claimed SelectRestrictedIdentification c answers context before = NotBegun
 claimed EncryptedNonce c answers context before = NotBegun
 claimed MapNonce c answers context before = NotBegun
 claimed PerformKeyAgreement c answers context before = NotBegun
 claimed MutualAuthentication c answers context before = NotBegun
 claimed AuthenticateChip c answers context before = NotBegun
+claimed PerformRestrictedIdentification c answers context before = NotBegun
+claimed VerifyAuxiliary c answers context before = NotBegun
 claimed ChangePin c answers context before = NotBegun
 claimed UnblockPin c answers context before = NotBegun
 claimed ChangeCan c answers context before = NotBegun
 claimed ActivatePin c answers context before = NotBegun
 claimed DeactivatePin c answers context before = NotBegun
-claimed VerifyAuxiliary c answers context before = NotBegun
 claimed NoProtocol c answers context before = NotBegun
 claimed NoStep c answers context before = NotBegun
 

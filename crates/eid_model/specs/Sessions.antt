@@ -18,7 +18,7 @@ use Rattle.eid_ca.specs.Keys.{enc_key, mac_key}
 use Rattle.eid_trust.specs.Trust.{is_link, is_verifier_role, is_terminal_role, no_sectors, party_of, point_named}
 use Rattle.eid_sm.specs.Keys.{Keys, ChannelState}
 use Rattle.eid_model.specs.declared.kind.Kind.{Kind}
-use Rattle.eid_model.specs.declared.kind.Kind.TheVariants.{SelectApplication, SelectMasterFile, SelectFile, ReadBinary, UpdateBinary, SelectPace, SelectPublicKey, VerifyCertificate, AnnounceTerminal, GetChallenge, ExternalAuthenticate, SelectChipAuthentication, EncryptedNonce, MapNonce, PerformKeyAgreement, MutualAuthentication, AuthenticateChip, ChangePin, UnblockPin, ChangeCan, ActivatePin, DeactivatePin, VerifyAuxiliary, NoProtocol, NoStep}
+use Rattle.eid_model.specs.declared.kind.Kind.TheVariants.{SelectApplication, SelectMasterFile, SelectFile, ReadBinary, UpdateBinary, SelectPace, SelectPublicKey, VerifyCertificate, AnnounceTerminal, GetChallenge, ExternalAuthenticate, SelectChipAuthentication, SelectRestrictedIdentification, EncryptedNonce, MapNonce, PerformKeyAgreement, MutualAuthentication, AuthenticateChip, PerformRestrictedIdentification, VerifyAuxiliary, ChangePin, UnblockPin, ChangeCan, ActivatePin, DeactivatePin, NoProtocol, NoStep}
 use Rattle.eid_files.specs.Names.{file_of_id, file_of_short}
 use Rattle.eid_model.specs.Kinds.{is_by_short}
 use Rattle.eid_model.specs.Moments.{PlainMoment, ends_session}
@@ -43,17 +43,19 @@ selects AnnounceTerminal = None
 selects GetChallenge = None
 selects ExternalAuthenticate = None
 selects SelectChipAuthentication = None
+selects SelectRestrictedIdentification = None
 selects EncryptedNonce = None
 selects MapNonce = None
 selects PerformKeyAgreement = None
 selects MutualAuthentication = None
 selects AuthenticateChip = None
+selects PerformRestrictedIdentification = None
+selects VerifyAuxiliary = None
 selects ChangePin = None
 selects UnblockPin = None
 selects ChangeCan = None
 selects ActivatePin = None
 selects DeactivatePin = None
-selects VerifyAuxiliary = None
 selects NoProtocol = None
 selects NoStep = None
 
@@ -75,17 +77,19 @@ names AnnounceTerminal c = None
 names GetChallenge c = None
 names ExternalAuthenticate c = None
 names SelectChipAuthentication c = None
+names SelectRestrictedIdentification c = None
 names EncryptedNonce c = None
 names MapNonce c = None
 names PerformKeyAgreement c = None
 names MutualAuthentication c = None
 names AuthenticateChip c = None
+names PerformRestrictedIdentification c = None
+names VerifyAuxiliary c = None
 names ChangePin c = None
 names UnblockPin c = None
 names ChangeCan c = None
 names ActivatePin c = None
 names DeactivatePin c = None
-names VerifyAuxiliary c = None
 names NoProtocol c = None
 names NoStep c = None
 
@@ -129,17 +133,19 @@ pace_done AnnounceTerminal phase = None
 pace_done GetChallenge phase = None
 pace_done ExternalAuthenticate phase = None
 pace_done SelectChipAuthentication phase = None
+pace_done SelectRestrictedIdentification phase = None
 pace_done EncryptedNonce phase = None
 pace_done MapNonce phase = None
 pace_done PerformKeyAgreement phase = None
 pace_done MutualAuthentication phase = done_with phase
 pace_done AuthenticateChip phase = None
+pace_done PerformRestrictedIdentification phase = None
+pace_done VerifyAuxiliary phase = None
 pace_done ChangePin phase = None
 pace_done UnblockPin phase = None
 pace_done ChangeCan phase = None
 pace_done ActivatePin phase = None
 pace_done DeactivatePin phase = None
-pace_done VerifyAuxiliary phase = None
 pace_done NoProtocol phase = None
 pace_done NoStep phase = None
 
@@ -179,17 +185,19 @@ keys_by AnnounceTerminal given phase = None
 keys_by GetChallenge given phase = None
 keys_by ExternalAuthenticate given phase = None
 keys_by SelectChipAuthentication given phase = None
+keys_by SelectRestrictedIdentification given phase = None
 keys_by EncryptedNonce given phase = None
 keys_by MapNonce given phase = None
 keys_by PerformKeyAgreement given phase = None
 keys_by MutualAuthentication given phase = option_map keys_of (done_with phase)
 keys_by AuthenticateChip given phase = keys_agreed given
+keys_by PerformRestrictedIdentification given phase = None
+keys_by VerifyAuxiliary given phase = None
 keys_by ChangePin given phase = None
 keys_by UnblockPin given phase = None
 keys_by ChangeCan given phase = None
 keys_by ActivatePin given phase = None
 keys_by DeactivatePin given phase = None
-keys_by VerifyAuxiliary given phase = None
 keys_by NoProtocol given phase = None
 keys_by NoStep given phase = None
 
@@ -236,17 +244,19 @@ accepts AnnounceTerminal c = None
 accepts GetChallenge c = None
 accepts ExternalAuthenticate c = None
 accepts SelectChipAuthentication c = None
+accepts SelectRestrictedIdentification c = None
 accepts EncryptedNonce c = None
 accepts MapNonce c = None
 accepts PerformKeyAgreement c = None
 accepts MutualAuthentication c = None
 accepts AuthenticateChip c = None
+accepts PerformRestrictedIdentification c = None
+accepts VerifyAuxiliary c = None
 accepts ChangePin c = None
 accepts UnblockPin c = None
 accepts ChangeCan c = None
 accepts ActivatePin c = None
 accepts DeactivatePin c = None
-accepts VerifyAuxiliary c = None
 accepts NoProtocol c = None
 accepts NoStep c = None
 
@@ -332,17 +342,19 @@ makes_known AnnounceTerminal before = None
 makes_known GetChallenge before = None
 makes_known ExternalAuthenticate before = known_after before
 makes_known SelectChipAuthentication before = None
+makes_known SelectRestrictedIdentification before = None
 makes_known EncryptedNonce before = None
 makes_known MapNonce before = None
 makes_known PerformKeyAgreement before = None
 makes_known MutualAuthentication before = None
 makes_known AuthenticateChip before = None
+makes_known PerformRestrictedIdentification before = None
+makes_known VerifyAuxiliary before = None
 makes_known ChangePin before = None
 makes_known UnblockPin before = None
 makes_known ChangeCan before = None
 makes_known ActivatePin before = None
 makes_known DeactivatePin before = None
-makes_known VerifyAuxiliary before = None
 makes_known NoProtocol before = None
 makes_known NoStep before = None
 
@@ -380,17 +392,19 @@ proves_chip AnnounceTerminal = None
 proves_chip GetChallenge = None
 proves_chip ExternalAuthenticate = Some false
 proves_chip SelectChipAuthentication = None
+proves_chip SelectRestrictedIdentification = None
 proves_chip EncryptedNonce = None
 proves_chip MapNonce = None
 proves_chip PerformKeyAgreement = None
 proves_chip MutualAuthentication = Some false
 proves_chip AuthenticateChip = Some true
+proves_chip PerformRestrictedIdentification = None
+proves_chip VerifyAuxiliary = None
 proves_chip ChangePin = None
 proves_chip UnblockPin = None
 proves_chip ChangeCan = None
 proves_chip ActivatePin = None
 proves_chip DeactivatePin = None
-proves_chip VerifyAuxiliary = None
 proves_chip NoProtocol = None
 proves_chip NoStep = None
 
@@ -413,7 +427,7 @@ pub record PaceMemory : Type 0 where
 abbrev pub memory_of : PlainDone → PaceMemory
 memory_of done = record { password = done.password; template = done.template; identity = done.identity }
 
--- What the moments of a session leave. Later kinds add to it.
+-- What the moments of a session leave.
 pub record State : Type 0 where
   -- the step that comes next in the run
   pub next : Option Kind

@@ -25,6 +25,8 @@ pub enum Kind {
     ExternalAuthenticate,
     /// MSE:Set AT for chip authentication.
     SelectChipAuthentication,
+    /// MSE:Set AT for restricted identification.
+    SelectRestrictedIdentification,
     /// The first GENERAL AUTHENTICATE of PACE: the encrypted nonce.
     EncryptedNonce,
     /// The second: the nonce is mapped to a base.
@@ -35,6 +37,10 @@ pub enum Kind {
     MutualAuthentication,
     /// The GENERAL AUTHENTICATE of chip authentication.
     AuthenticateChip,
+    /// The GENERAL AUTHENTICATE of restricted identification.
+    PerformRestrictedIdentification,
+    /// VERIFY of auxiliary data: age, document validity or community.
+    VerifyAuxiliary,
     /// RESET RETRY COUNTER with a new PIN.
     ChangePin,
     /// RESET RETRY COUNTER without one: the tries of the PIN are given back.
@@ -45,8 +51,6 @@ pub enum Kind {
     ActivatePin,
     /// DEACTIVATE of the PIN.
     DeactivatePin,
-    /// VERIFY of auxiliary data: age, document validity or community.
-    VerifyAuxiliary,
     /// An MSE:Set AT that names no protocol of its parameters.
     NoProtocol,
     /// A step that the run has not come to.

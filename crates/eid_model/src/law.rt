@@ -5,14 +5,15 @@ ghost use Rattle.eid_bits.specs.Date.{number_of};
 ghost use Rattle.eid_record.specs.Plain.{FullRecord, PlainEffect, Spend};
 ghost use Rattle.eid_password.specs.Passwords.{ALL_TRIES};
 ghost use Rattle.eid_copro.specs.Told.{Source, AnswersFrom};
+ghost use Rattle.eid_ri.specs.SectorKeys.{PlainSectorKeys};
 ghost use Rattle.eid_model.specs.Moments.{PlainMoment, live, script, asked, leaves_no_session, AreSteady};
 ghost use Rattle.eid_model.specs.Runs.{run, phase};
 ghost use Rattle.eid_model.specs.Sessions.{fresh};
 ghost use Rattle.eid_model.specs.Legal.{AreLegal};
 ghost use Rattle.eid_model.specs.Ledger.{ledger, kept, state_of};
-ghost use Rattle.eid_model.specs.Laws.{compares_pin, refused_pins, gives_back, goes_on_with_pin, IsAuthorised, IsServed, comparison_asked, group_read, is_compared_by, others_hold, others_hold_but_36, sent_at};
+ghost use Rattle.eid_model.specs.Laws.{compares_pin, refused_pins, gives_back, goes_on_with_pin, HasCompleted, HasItsRight, HasRight, SelectionHolds, comparison_asked, group_read, sectors_asked, tells_comparison, others_hold, others_hold_but_36, sent_at};
 ghost use Rattle.eid_model.specs.declared.comparison.Comparison.{Comparison};
-ghost use Rattle.eid_model.specs.Rules.{is_granted, reading};
+ghost use Rattle.eid_model.specs.Rules.{RESTRICTED_IDENTIFICATION, is_granted, reading};
 ghost use Rattle.eid_model.specs.Bodies.{NamesKey, authentication_data, data_in, holds_value, key_name_in};
 
 /// There is one journal for an opening record, a script and a source of the coprocessor's answers, as
@@ -36,16 +37,25 @@ pub fn law_fresh()
 /// right to read it stands in the template that the holder gave in that PACE and in those of the trust point, the document
 /// verifier and the terminal, and all other rules on a READ BINARY hold. A comparison is answered, by yes or by no, exactly where
 /// the session has completed these, the right that it takes, if it takes one, stands in these templates, and all other rules
-/// on a VERIFY hold but that it is a yes.
+/// on a VERIFY hold but that it is a yes. The identifiers in sectors are answered exactly where the session has completed these,
+/// the right to restricted identification stands in these templates, the selection's other conditions hold, and all other
+/// rules on the step hold.
 pub fn law_access()
     ensures group { (opening : FullRecord) (m : PlainMoment) (before : List PlainMoment) (c : PlainCommand) (group : ℕ)
         → AreLegal opening (m ∷ before) → m.plain ≡ Some c → is_some m.answer ≡ true → group_read (sent_at opening before c m) ≡ Some group
-        → m.rule ≡ 0 ↔ (IsAuthorised (sent_at opening before c m).state (reading group) × (others_hold (sent_at opening before c m) ≡ true)) }
+        → m.rule ≡ 0 ↔ (HasCompleted (sent_at opening before c m).state × HasRight (sent_at opening before c m).state (reading group)
+        × (others_hold (sent_at opening before c m) ≡ true)) }
     ensures comparison { (opening : FullRecord) (m : PlainMoment) (before : List PlainMoment) (c : PlainCommand) (comparison : Comparison)
         → AreLegal opening (m ∷ before) → m.plain ≡ Some c → is_some m.answer ≡ true
         → comparison_asked (sent_at opening before c m) ≡ Some comparison
-        → (is_compared_by m.rule ≡ true)
-        ↔ (IsServed (sent_at opening before c m).state comparison × (others_hold_but_36 (sent_at opening before c m) ≡ true)) }
+        → (tells_comparison m.rule ≡ true)
+        ↔ (HasCompleted (sent_at opening before c m).state × HasItsRight (sent_at opening before c m).state comparison
+        × (others_hold_but_36 (sent_at opening before c m) ≡ true)) }
+    ensures identifier { (opening : FullRecord) (m : PlainMoment) (before : List PlainMoment) (c : PlainCommand) (keys : PlainSectorKeys)
+        → AreLegal opening (m ∷ before) → m.plain ≡ Some c → is_some m.answer ≡ true → sectors_asked (sent_at opening before c m) ≡ Some keys
+        → m.rule ≡ 0
+        ↔ (HasCompleted (sent_at opening before c m).state × HasRight (sent_at opening before c m).state RESTRICTED_IDENTIFICATION
+        × SelectionHolds (sent_at opening before c m).state × (others_hold (sent_at opening before c m) ≡ true)) }
 {}
 
 /// Each token of the PIN costs a try first: where a moment compared one, rightly or not, its Spend is the first effect that

@@ -3,7 +3,7 @@ use Rattle.std.proofs.Common.{refl, ap, sym, ◌∙◌}
 use Rattle.eid_apdu.specs.Command.{plain_command}
 use Rattle.eid_apdu.specs.Answer.{plain_reply}
 use Rattle.eid_base.specs.declared.codes.Rule.{Rule}
-use Rattle.eid_model.specs.declared.kind.Kind.TheVariants.{SelectApplication, SelectMasterFile, SelectFile, ReadBinary, SelectPace, SelectPublicKey, AnnounceTerminal, GetChallenge, ExternalAuthenticate, SelectChipAuthentication, EncryptedNonce, MapNonce, PerformKeyAgreement, AuthenticateChip, VerifyAuxiliary, NoProtocol, NoStep}
+use Rattle.eid_model.specs.declared.kind.Kind.TheVariants.{SelectApplication, SelectMasterFile, SelectFile, ReadBinary, SelectPace, SelectPublicKey, AnnounceTerminal, GetChallenge, ExternalAuthenticate, SelectChipAuthentication, SelectRestrictedIdentification, EncryptedNonce, MapNonce, PerformKeyAgreement, AuthenticateChip, PerformRestrictedIdentification, VerifyAuxiliary, NoProtocol, NoStep}
 use Rattle.eid_chip.specs.Held.{held}
 use Rattle.eid_chip.specs.States.{state}
 use Rattle.eid_chip.proofs.HeldFiles.{held_fields}
@@ -112,6 +112,13 @@ returns-in-SelectChipAuthentication-clause-performed g c =
     settled _ SelectChipAuthentication c.args.session command c.uncommitted-in-SelectChipAuthentication.result c.select_chip_authentication.result (plain_reply c.select_chip_authentication.new.reply) (g.C.Coprocessor.seen c.args.copro.now) (g.C.Coprocessor.seen c.args.copro.now) c.args.store.now (g.E.Eeprom.device c.args.cells.now) cells
     c.in-SelectChipAuthentication.is (λ s. refl) c.requires.mounted c.uncommitted-in-SelectChipAuthentication.ensures (unasked (g.C.Coprocessor.seen c.args.copro.now) SelectChipAuthentication (held cells) c.args.session command _ _ (c.select_chip_authentication.ensures.told (held cells)))
 
+pub returns-in-SelectRestrictedIdentification-clause-performed : goal.returns-in-SelectRestrictedIdentification-clause-performed
+returns-in-SelectRestrictedIdentification-clause-performed g c =
+    let cells = g.E.Eeprom.cells c.args.cells.now in
+    let command = plain_command c.args.c.now in
+    settled _ SelectRestrictedIdentification c.args.session command c.uncommitted-in-SelectRestrictedIdentification.result c.select_restricted_identification.result (plain_reply c.select_restricted_identification.new.reply) (g.C.Coprocessor.seen c.args.copro.now) (g.C.Coprocessor.seen c.args.copro.now) c.args.store.now (g.E.Eeprom.device c.args.cells.now) cells
+    c.in-SelectRestrictedIdentification.is (λ s. refl) c.requires.mounted c.uncommitted-in-SelectRestrictedIdentification.ensures (unasked (g.C.Coprocessor.seen c.args.copro.now) SelectRestrictedIdentification (held cells) c.args.session command _ _ (c.select_restricted_identification.ensures.told (held cells)))
+
 pub returns-in-AuthenticateChip-clause-performed : goal.returns-in-AuthenticateChip-clause-performed
 returns-in-AuthenticateChip-clause-performed g c =
     let cells = g.E.Eeprom.cells c.args.cells.now in
@@ -119,6 +126,14 @@ returns-in-AuthenticateChip-clause-performed g c =
     let command = plain_command c.args.c.now in
     settled _ AuthenticateChip c.args.session command c.uncommitted-in-AuthenticateChip.result c.authenticate_chip.result (plain_reply c.authenticate_chip.new.reply) (g.C.Coprocessor.seen c.args.copro.now) (g.C.Coprocessor.seen c.authenticate_chip.new.copro) c.args.store.now (g.E.Eeprom.device c.args.cells.now) cells
     c.in-AuthenticateChip.is (λ s. refl) c.requires.mounted c.uncommitted-in-AuthenticateChip.ensures (c.authenticate_chip.ensures.told (held cells) fields)
+
+pub returns-in-PerformRestrictedIdentification-clause-performed : goal.returns-in-PerformRestrictedIdentification-clause-performed
+returns-in-PerformRestrictedIdentification-clause-performed g c =
+    let cells = g.E.Eeprom.cells c.args.cells.now in
+    let fields = held_fields c.args.store.now (g.E.Eeprom.device c.args.cells.now) cells c.requires.mounted ∙ sym c.kept-in-PerformRestrictedIdentification.ensures in
+    let command = plain_command c.args.c.now in
+    settled _ PerformRestrictedIdentification c.args.session command c.uncommitted-in-PerformRestrictedIdentification.result c.perform_restricted_identification.result (plain_reply c.perform_restricted_identification.new.reply) (g.C.Coprocessor.seen c.args.copro.now) (g.C.Coprocessor.seen c.perform_restricted_identification.new.copro) c.args.store.now (g.E.Eeprom.device c.args.cells.now) cells
+    c.in-PerformRestrictedIdentification.is (λ s. refl) c.requires.mounted c.uncommitted-in-PerformRestrictedIdentification.ensures (c.perform_restricted_identification.ensures.told (held cells) fields)
 
 pub returns-in-NoProtocol-clause-performed : goal.returns-in-NoProtocol-clause-performed
 returns-in-NoProtocol-clause-performed g c =
