@@ -3,7 +3,7 @@
 #![tactic(auto)]
 
 mod chosen;
-mod keys;
+pub mod keys;
 mod protocol;
 pub mod rules;
 mod selection;

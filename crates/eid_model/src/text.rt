@@ -13,7 +13,8 @@ use eid_copro::{Answer, Ask, Question};
 use std::alloc::Global;
 use std::marker::Model;
 
-/// A text to which moments are appended, as a trace has them. A contract sees its bytes.
+/// A text that grows: moments are appended as a trace has them, and pieces of other lines. A contract sees its bytes.
+/// `NoMemory` of an append is want of memory; the text may then have a part of what was to be appended.
 #[derive(Drop)]
 pub struct Text {
     alloc: Global,
@@ -54,15 +55,15 @@ impl Text {
     }
 
     /// Appends bytes as they are.
-    fn put(&mut self, bytes: &[u8]) -> Result<(), NoMemory>
+    pub fn put(&mut self, bytes: &[u8]) -> Result<(), NoMemory>
         ensures { OnOk result (self.new ≡ self.old ++ bytes.now) }
     {
         self.bytes.extend_from_slice(bytes)?;
         Ok(())
     }
 
-    /// Appends bytes in hexadecimal.
-    fn put_hex(&mut self, bytes: &[u8]) -> Result<(), NoMemory>
+    /// Appends bytes in hexadecimal, in lower case.
+    pub fn put_hex(&mut self, bytes: &[u8]) -> Result<(), NoMemory>
         ensures { OnOk result (self.new ≡ self.old ++ encode_lower bytes.now) }
     {
         let start = self.bytes.len();
@@ -74,7 +75,7 @@ impl Text {
     }
 
     /// Appends a number in decimal.
-    fn put_decimal(&mut self, number: u32) -> Result<(), NoMemory>
+    pub fn put_decimal(&mut self, number: u32) -> Result<(), NoMemory>
         ensures { OnOk result (self.new ≡ self.old ++ decimal number) }
     {
         let digits = number.to_string(self.alloc)?;

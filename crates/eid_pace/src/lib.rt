@@ -5,7 +5,7 @@
 mod agreed;
 mod choice;
 mod chosen;
-mod keys;
+pub mod keys;
 mod mapped;
 mod nonce_sent;
 mod protocol;

@@ -2,7 +2,7 @@
 use Rattle.std.specs.Prelude.{ℕ, List, [], ◌∷◌, Option, None, Result, Ok, codes}
 use Rattle.toml.specs.Data.{Members}
 use Rattle.eid_record.specs.Reading.{◌>>=◌}
-use Rattle.eid_perso.specs.Forms.{date, hash, name, point, sized}
+use Rattle.eid_perso.specs.Forms.{date, maybe, name, point, sized}
 use Rattle.eid_perso.specs.Keys.{Key, optional, required, row}
 use Rattle.eid_perso.specs.Kit.{PlainKit}
 
@@ -25,10 +25,10 @@ abbrev pub expiry_key : Key (List ℕ)
 expiry_key = row 6 (codes "expiry") date
 
 abbrev pub sector1_key : Key (Option (List ℕ))
-sector1_key = row 7 (codes "sector1") hash
+sector1_key = row 7 (codes "sector1") (maybe (sized 32))
 
 abbrev pub sector2_key : Key (Option (List ℕ))
-sector2_key = row 8 (codes "sector2") hash
+sector2_key = row 8 (codes "sector2") (maybe (sized 32))
 
 abbrev pub signer_secret_key : Key (List ℕ)
 signer_secret_key = row 9 (codes "signer_secret") (sized 32)

@@ -6,5 +6,6 @@ pub mod Forms
 pub mod Keys
 pub mod Kit
 pub mod KitKeys
+pub mod PlanKeys
 pub mod Issuing
 pub mod Reading

@@ -5,12 +5,14 @@ use Rattle.toml.specs.Data.{Members}
 use Rattle.toml.specs.Parse.{parse_document}
 use Rattle.eid_record.specs.Reading.{◌>>=◌}
 use Rattle.eid_text.specs.Lines.{text_limit}
+use Rattle.eid_terminal.specs.Plans.{PlainPlan}
 use Rattle.eid_perso.specs.declared.config.ConfigError.{ConfigError}
 use Rattle.eid_perso.specs.declared.config.ConfigError.TheVariants.{Bad, NoMemory}
 use Rattle.eid_perso.specs.Config.{PlainConfig}
 use Rattle.eid_perso.specs.Keys.{config_in, or_refused}
 use Rattle.eid_perso.specs.Kit.{PlainKit}
 use Rattle.eid_perso.specs.KitKeys.{kit_in}
+use Rattle.eid_perso.specs.PlanKeys.{plan_in}
 
 abbrev pub IsRefusedBy : {Y : Type 0} → Result Y ℕ → ConfigError → Type 0
 IsRefusedBy read (Bad key) = read ≡ Err key
@@ -40,3 +42,7 @@ config_of text = of_document config_in text
 -- what the text says of a test certificate
 unfoldable pub kit_of_text : List ℕ → Result PlainKit ℕ
 kit_of_text text = of_document kit_in text
+
+-- the plan of a terminal that a text says
+unfoldable pub plan_of_text : List ℕ → Result PlainPlan ℕ
+plan_of_text text = of_document plan_in text

@@ -10,7 +10,8 @@ use crate::forms;
 use crate::keys::value_at;
 use arrayvec::ArrayVec;
 use eid_base::Point;
-use eid_bits::{Date6, Template};
+use eid_bits::{Date6, Date8, Template};
+use eid_record::Password;
 use toml::{Table, Value};
 
 /// A form of values.
@@ -224,27 +225,26 @@ impl<const N: usize> Form for Hex<N> {
     }
 }
 
-/// A hash of 32 bytes in hexadecimal, where the key may be left out.
+/// A form where the key may be left out.
 #[derive(Drop)]
-pub struct Hash;
+pub struct Maybe<F>(pub F);
 
-impl Form for Hash {
-    ghost use Rattle.std.specs.Prelude.{ℕ, List, length};
-    ghost use Rattle.eid_perso.specs.Forms.{hash};
+impl<F: Form> Form for Maybe<F> {
+    ghost use Rattle.eid_perso.specs.Forms.{maybe};
 
-    type Read = Option<[u8; 32]>;
+    type Read = Option<F::Read>;
 
-    ghost Plain = { Option (List ℕ) };
+    ghost Plain = { Option F.Plain };
 
-    ghost plain = { λ hash. hash };
+    ghost plain = { option_map F.plain };
 
-    ghost gives = { λ form value. hash value };
+    ghost gives = { λ form value. maybe (F.gives form.0) value };
 
-    ghost valid = { λ form hash. IfSome hash (λ bytes. length bytes ≡ 32) };
+    ghost valid = { λ form x. IfSome x (F.valid form.0) };
 
-    fn read(&self, value: &Value) -> Option<Option<[u8; 32]>> {
-        match forms::sized::<32>(value) {
-            Some(hash) => Some(Some(hash)),
+    fn read(&self, value: &Value) -> Option<Option<F::Read>> {
+        match self.0.read(value) {
+            Some(x) => Some(Some(x)),
             None => None,
         }
     }
@@ -294,5 +294,104 @@ impl Form for Uncompressed {
 
     fn read(&self, value: &Value) -> Option<Point> {
         forms::point(value)
+    }
+}
+
+/// A date in eight decimal digits.
+#[derive(Drop)]
+pub struct LongDate;
+
+impl Form for LongDate {
+    ghost use Rattle.std.specs.Prelude.{ℕ, List, ⊤};
+    ghost use Rattle.eid_bits.specs.Dates.{date_text};
+    ghost use Rattle.eid_perso.specs.Forms.{long_date};
+
+    type Read = Date8;
+
+    ghost Plain = { List ℕ };
+
+    ghost plain = { date_text };
+
+    ghost gives = { λ form value. long_date value };
+
+    ghost valid = { λ form text. ⊤ };
+
+    fn read(&self, value: &Value) -> Option<Date8> {
+        forms::long_date(value)
+    }
+}
+
+/// 1 to 16 bytes in hexadecimal.
+#[derive(Drop)]
+pub struct Community;
+
+impl Form for Community {
+    ghost use Rattle.std.specs.Prelude.{ℕ, List};
+    ghost use Rattle.eid_terminal.specs.Plans.{IsCommunity};
+    ghost use Rattle.eid_perso.specs.Forms.{community};
+
+    type Read = ArrayVec<u8, 16>;
+
+    ghost Plain = { List ℕ };
+
+    ghost plain = { λ bytes. bytes.items };
+
+    ghost gives = { λ form value. community value };
+
+    ghost valid = { λ form bytes. IsCommunity bytes };
+
+    fn read(&self, value: &Value) -> Option<ArrayVec<u8, 16>> {
+        forms::community(value)
+    }
+}
+
+/// The word of a password.
+#[derive(Drop)]
+pub struct PasswordWord;
+
+impl Form for PasswordWord {
+    ghost use Rattle.std.specs.Prelude.{⊤};
+    ghost use Rattle.eid_record.specs.declared.fields.Password.{Password};
+    ghost use Rattle.eid_perso.specs.Forms.{password_word};
+
+    type Read = Password;
+
+    ghost Plain = { Password };
+
+    ghost plain = { λ p. p };
+
+    ghost gives = { λ form value. password_word value };
+
+    ghost valid = { λ form p. ⊤ };
+
+    fn read(&self, value: &Value) -> Option<Password> {
+        forms::password_word(value)
+    }
+}
+
+/// The decimal digits of a password.
+#[derive(Drop)]
+pub struct PasswordDigits {
+    pub password: Password,
+}
+
+impl Form for PasswordDigits {
+    ghost use Rattle.std.specs.Prelude.{ℕ, List};
+    ghost use Rattle.eid_record.specs.Valid.{AreDigits};
+    ghost use Rattle.eid_terminal.specs.Plans.{digits_of};
+    ghost use Rattle.eid_perso.specs.Forms.{digits};
+
+    type Read = ArrayVec<u8, 10>;
+
+    ghost Plain = { List ℕ };
+
+    ghost plain = { λ text. text.items };
+
+    ghost gives = { λ form value. digits (digits_of form.password) value };
+
+    ghost valid = { λ form text. AreDigits (digits_of form.password) text };
+
+    fn read(&self, value: &Value) -> Option<ArrayVec<u8, 10>> {
+        forms::password_digits(value, self.password)
     }
 }

@@ -1,14 +1,17 @@
 //! The forms of values.
 ghost use Rattle.std.specs.Prelude.{◌≡◌, ◌-◌, map, nat_le, IfOk, IsErr, IsSome, option_map};
 ghost use Rattle.std.specs.List.{list_all};
-ghost use Rattle.eid_bits.specs.Dates.{date_digits};
+ghost use Rattle.eid_bits.specs.Dates.{date_digits, date_text};
 ghost use Rattle.eid_bits.specs.Template.{template_bytes};
 ghost use Rattle.toml.specs.View.{view};
+ghost use Rattle.eid_terminal.specs.Plans.{digits_of};
 ghost use Rattle.eid_perso.specs.Forms.{number_between, whole, digits_in, digits, date_in, date, is_name, name_in, name, sized, point, file};
+ghost use Rattle.eid_perso.specs.Forms.{long_date, community_in, community, password_of_word, password_word};
 
 use arrayvec::ArrayVec;
 use eid_base::{NoMemory, Point};
-use eid_bits::{Date6, Template};
+use eid_bits::{Date6, Date8, Template};
+use eid_record::Password;
 use eid_text::{are_digits, decode_hex};
 use hex::FromHex;
 use std::alloc::Global;
@@ -89,6 +92,16 @@ pub fn date(value: &Value) -> Option<Date6>
     }
 }
 
+/// A text of eight decimal digits that are a date.
+pub fn long_date(value: &Value) -> Option<Date8>
+    ensures { option_map date_text result ≡ long_date (view value.now) }
+{
+    match value.as_str() {
+        Some(text) => Date8::from_bytes(text.as_bytes()).ok(),
+        None => None,
+    }
+}
+
 fn is_ascii(text: &[u8]) -> bool
     ensures { result ≡ list_all (λ b. nat_le b 127) text.now }
 {
@@ -163,5 +176,87 @@ pub fn file(alloc: Global, value: &Value) -> Result<Option<Vec<u8>>, NoMemory>
     match value.as_str() {
         Some(text) => decode_hex(alloc, text.as_bytes(), MAX_FILE),
         None => Ok(None),
+    }
+}
+
+/// How many bytes the longest community has.
+const MAX_COMMUNITY: usize = 16;
+
+#[tactic(auto, using(crate::proofs::Communities::too_short, crate::proofs::Communities::too_long))]
+fn community_in(text: &[u8]) -> Option<ArrayVec<u8, MAX_COMMUNITY>>
+    ensures { option_map (λ c. c.items) result ≡ community_in text.now }
+{
+    let count = text.len() / 2;
+    if !matches!(count, 1..=MAX_COMMUNITY) {
+        return None;
+    }
+    let mut bytes = [0; MAX_COMMUNITY];
+    let Ok(()) = hex::decode_to_slice(text, &mut bytes[..count]) else {
+        return None;
+    };
+    let mut community = ArrayVec::new();
+    let _ = community.try_extend_from_slice(&bytes[..count]);
+    Some(community)
+}
+
+/// 1 to 16 bytes in hexadecimal.
+pub fn community(value: &Value) -> Option<ArrayVec<u8, MAX_COMMUNITY>>
+    ensures { option_map (λ c. c.items) result ≡ community (view value.now) }
+{
+    match value.as_str() {
+        Some(text) => community_in(text.as_bytes()),
+        None => None,
+    }
+}
+
+fn password_of_word(word: &str) -> Option<Password>
+    ensures { result ≡ password_of_word word.now }
+{
+    match word {
+        "can" => Some(Password::Can),
+        "pin" => Some(Password::Pin),
+        "puk" => Some(Password::Puk),
+        _ => None,
+    }
+}
+
+/// A password by its word.
+pub fn password_word(value: &Value) -> Option<Password>
+    ensures { result ≡ password_word (view value.now) }
+{
+    match value.as_str() {
+        Some(word) => password_of_word(word),
+        None => None,
+    }
+}
+
+/// How many digits a password has.
+fn digits_of(password: Password) -> usize
+    ensures { result ≡ digits_of password }
+{
+    match password {
+        Password::Can | Password::Pin => 6,
+        Password::Puk => 10,
+    }
+}
+
+fn password_digits_in(text: &[u8], password: Password) -> Option<ArrayVec<u8, 10>>
+    ensures { option_map (λ d. d.items) result ≡ digits_in (digits_of password) text.now }
+{
+    if text.len() != digits_of(password) || !are_digits(text) {
+        return None;
+    }
+    let mut digits = ArrayVec::new();
+    let _ = digits.try_extend_from_slice(text);
+    Some(digits)
+}
+
+/// As many decimal digits as a password has.
+pub fn password_digits(value: &Value, password: Password) -> Option<ArrayVec<u8, 10>>
+    ensures { option_map (λ d. d.items) result ≡ digits (digits_of password) (view value.now) }
+{
+    match value.as_str() {
+        Some(text) => password_digits_in(text.as_bytes(), password),
+        None => None,
     }
 }

@@ -7,7 +7,7 @@ ghost use Rattle.eid_perso.specs.KitKeys.{parties_in, rights_in, sectors_in};
 ghost use Rattle.eid_perso.specs.Reading.{Reads};
 
 use crate::config::ConfigError;
-use crate::form::{Day, Hash, Hex, Key, Name, Rights, Uncompressed, optional, required};
+use crate::form::{Day, Hex, Key, Maybe, Name, Rights, Uncompressed, optional, required};
 use arrayvec::ArrayVec;
 use eid_base::Point;
 use eid_bits::{Date6, Template};
@@ -50,16 +50,16 @@ const EXPIRY: Key<Day> = Key {
     form: Day,
 };
 
-const SECTOR1: Key<Hash> = Key {
+const SECTOR1: Key<Maybe<Hex<32>>> = Key {
     number: 7,
     name: "sector1",
-    form: Hash,
+    form: Maybe(Hex),
 };
 
-const SECTOR2: Key<Hash> = Key {
+const SECTOR2: Key<Maybe<Hex<32>>> = Key {
     number: 8,
     name: "sector2",
-    form: Hash,
+    form: Maybe(Hex),
 };
 
 pub const SIGNER_SECRET: Key<Hex<32>> = Key {

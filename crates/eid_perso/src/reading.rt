@@ -3,11 +3,13 @@ ghost use Rattle.std.specs.Prelude.{◌≡◌, IfOk};
 ghost use Rattle.toml.specs.View.{table_view};
 ghost use Rattle.eid_cvc.specs.View.{body_view};
 ghost use Rattle.eid_cvc.specs.Writing.{IsWritable};
+ghost use Rattle.eid_terminal.specs.Plans.{IsFit, plan_view};
 ghost use Rattle.eid_perso.specs.Config.{IsWhole, config_view};
 ghost use Rattle.eid_perso.specs.Keys.{config_in};
 ghost use Rattle.eid_perso.specs.Kit.{kit_view};
 ghost use Rattle.eid_perso.specs.KitKeys.{kit_in};
-ghost use Rattle.eid_perso.specs.Reading.{Reads, config_of, document_in, kit_of_text};
+ghost use Rattle.eid_perso.specs.PlanKeys.{plan_in};
+ghost use Rattle.eid_perso.specs.Reading.{Reads, config_of, document_in, kit_of_text, plan_of_text};
 
 use crate::config::{Config, ConfigError};
 use crate::files::read_files;
@@ -15,8 +17,10 @@ use crate::form::required;
 use crate::keys::{DATE, counters, current, passwords, previous, secrets, start};
 use crate::kit::KitPlan;
 use crate::kit_keys::{SIGNER_SECRET, parties, rights, sectors};
+use crate::plan_keys::{authentication, auxiliary, pace, requests};
 use eid_cvc::CertificateBody;
 use eid_record::Record;
+use eid_terminal::Plan;
 use std::alloc::Global;
 use toml::Table;
 
@@ -82,6 +86,32 @@ fn kit_of_table(table: &Table) -> Result<KitPlan, ConfigError>
     Ok(KitPlan { body, signer })
 }
 
+/// The plan of a table.
+#[tactic(auto, unfolding(crate::specs::PlanKeys::plan_in))]
+fn plan_of_table(alloc: Global, table: &Table) -> Result<Plan, ConfigError>
+    ensures reads { Reads plan_view result (plan_in (table_view table.now)) }
+    ensures fit { IfOk result (λ p. IsFit (plan_view p)) }
+{
+    let (can_first, password, value, template) = pace(table)?;
+    let (certificates, terminal_secret, chip_key) = authentication(alloc, table)?;
+    let (age, validity, community) = auxiliary(table)?;
+    let (sector, requests) = requests(alloc, table)?;
+    Ok(Plan {
+        can_first,
+        password,
+        value,
+        template,
+        certificates,
+        terminal_secret,
+        chip_key,
+        age,
+        validity,
+        community,
+        sector,
+        requests,
+    })
+}
+
 /// The table that a TOML text writes. Key 0 is refused where there is none.
 #[tactic(auto, using(crate::proofs::Documents::too_long, crate::proofs::Documents::no_text, crate::proofs::Documents::no_table, crate::proofs::Documents::document))]
 fn read_document(alloc: Global, text: &[u8]) -> Result<Table, ConfigError>
@@ -127,4 +157,18 @@ pub fn read_kit(alloc: Global, text: &[u8]) -> Result<KitPlan, ConfigError>
 {
     let table = read_document(alloc, text)?;
     kit_of_table(&table)
+}
+
+/// What a TOML text says that a terminal is to do, in one flat table; other keys are passed over. Hexadecimal is read in
+/// both cases. The keys and their forms are this project's own.
+///
+/// # Errors
+/// As `read_config`.
+#[tactic(auto, unfolding(crate::specs::Reading::plan_of_text))]
+pub fn read_plan(alloc: Global, text: &[u8]) -> Result<Plan, ConfigError>
+    ensures reads { Reads plan_view result (plan_of_text text.now) }
+    ensures fit { IfOk result (λ p. IsFit (plan_view p)) }
+{
+    let table = read_document(alloc, text)?;
+    plan_of_table(alloc, &table)
 }

@@ -1,7 +1,7 @@
-//! Questions about personalisation. A question has changes to one configuration, parted by `|`: `KEY` leaves the key
-//! out, `KEY VALUE` gives it another value, and `KEY file:N` so many bytes 00.
+//! Questions about personalisation and the plans of terminals. A question has changes to one configuration or to one
+//! plan, parted by `|`: `KEY` leaves the key out, `KEY VALUE` gives it another value, and `KEY file:N` so many bytes 00.
 use crate::words::{self, Piece, Unanswered, bytes, line, number, shown, text, word};
-use eid_perso::{Config, ConfigError, image_of, read_config, show_text};
+use eid_perso::{Config, ConfigError, image_of, read_config, read_plan, show_text};
 use std::alloc::Global;
 
 /// The keys and values of the configuration.
@@ -24,6 +24,23 @@ const BASE: [(&str, &str); 17] = [
     ("dg8", "\"3139393030333135\""),
     ("dg17", "\"0000000000000000\""),
     ("dg18", "\"02761100000000\""),
+];
+
+/// The keys and values of the plan.
+#[rattlefmt::skip]
+const PLAN: [(&str, &str); 12] = [
+    ("can_first", "\"654321\""),
+    ("password", "\"pin\""),
+    ("value", "\"123456\""),
+    ("template", "\"0000000801\""),
+    ("certificates", "[\"7f4e819c5f290100420d444543564341415430303030317f494f060a04007f00070202020203864104000000000000000000000000000000000000000000000000000000000000005500000000000000000000000000000000000000000000000000000000000000005f200d444554455354445630303030317f4c12060904007f0007030102025305be1fffff375f25060206000100015f24060206010203015f3740b619805ede34e2fa887ae1a6ad355afeff83df295d0546c09056bfc2c979de6f0000000000000000000000000000000000000000000000000000000000000000\"]"),
+    ("terminal_secret", "\"000000000000000000000000000000000000000000000000000000000000000d\""),
+    ("chip_key", "\"0400000000000000000000000000000000000000000000000000000000000000230000000000000000000000000000000000000000000000000000000000000000\""),
+    ("age", "\"20001231\""),
+    ("validity", "\"20260101\""),
+    ("community", "\"02761100000000\""),
+    ("sector", "\"0400000000000000000000000000000000000000000000000000000000000000230000000000000000000000000000000000000000000000000000000000000000\""),
+    ("requests", "[\"dg1\", \"age\", \"validity\", \"community\", \"ri\", \"dg21\"]"),
 ];
 
 /// The key that a change is of.
@@ -97,8 +114,12 @@ fn put_kept(
 }
 
 /// Appends the lines that no change is of.
-fn put_all_kept(document: &mut String, changes: &str) -> Result<(), Unanswered> {
-    for (key, value) in BASE.as_slice() {
+fn put_all_kept(
+    document: &mut String,
+    base: &[(&str, &str)],
+    changes: &str,
+) -> Result<(), Unanswered> {
+    for (key, value) in base {
         put_kept(document, key, value, changes)?;
     }
     Ok(())
@@ -112,10 +133,10 @@ fn put_changes(document: &mut String, changes: &str) -> Result<(), Unanswered> {
     Ok(())
 }
 
-/// The configuration with these changes.
-fn changed(alloc: Global, changes: &str) -> Result<String, Unanswered> {
+/// The text of these keys and values with these changes.
+fn changed(alloc: Global, base: &[(&str, &str)], changes: &str) -> Result<String, Unanswered> {
     let mut document = String::new(alloc);
-    put_all_kept(&mut document, changes)?;
+    put_all_kept(&mut document, base, changes)?;
     put_changes(&mut document, changes)?;
     Ok(document)
 }
@@ -141,8 +162,17 @@ fn read(alloc: Global, document: &[u8]) -> words::Answer {
 
 /// `config CHANGES`: whether the configuration with these changes is read, or the key that is refused.
 pub fn config(alloc: Global, changes: &str) -> words::Answer {
-    let document = changed(alloc, changes)?;
+    let document = changed(alloc, &BASE, changes)?;
     read(alloc, document.as_bytes())
+}
+
+/// `plan CHANGES`: whether the plan with these changes is read, or the key that is refused.
+pub fn plan(alloc: Global, changes: &str) -> words::Answer {
+    let document = changed(alloc, &PLAN, changes)?;
+    match read_plan(alloc, document.as_bytes()) {
+        Ok(_) => word(alloc, "read"),
+        Err(error) => refused(alloc, error),
+    }
 }
 
 /// `document TEXT`: the same of a whole text, in which `|` stands for LF.
@@ -159,7 +189,7 @@ pub fn document_in(alloc: Global, word: &str) -> words::Answer {
 
 /// `image CHANGES`: the image of the configuration with these changes.
 pub fn image(alloc: Global, changes: &str) -> words::Answer {
-    let document = changed(alloc, changes)?;
+    let document = changed(alloc, &BASE, changes)?;
     match read_config(alloc, document.as_bytes()) {
         Ok(config) => shown(alloc, &image_of(alloc, &config)?),
         Err(error) => refused(alloc, error),
@@ -168,7 +198,7 @@ pub fn image(alloc: Global, changes: &str) -> words::Answer {
 
 /// `show CHANGES`: the text that shows the record of the configuration with these changes, with `|` for LF.
 pub fn show(alloc: Global, changes: &str) -> words::Answer {
-    let document = changed(alloc, changes)?;
+    let document = changed(alloc, &BASE, changes)?;
     match read_config(alloc, document.as_bytes()) {
         Ok(config) => shown_record(alloc, &config),
         Err(error) => refused(alloc, error),

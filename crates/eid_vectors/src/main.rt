@@ -33,6 +33,7 @@ fn answer(alloc: Global, line: &str) -> Answer {
 fn about_text(alloc: Global, question: &str, rest: &str) -> Answer {
     match question {
         "config" => configurations::config(alloc, rest),
+        "plan" => configurations::plan(alloc, rest),
         "document" => configurations::document(alloc, rest),
         "document-in" => configurations::document_in(alloc, rest),
         "image" => configurations::image(alloc, rest),

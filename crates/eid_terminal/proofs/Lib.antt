@@ -1,0 +1,12 @@
+pub mod Coming
+pub mod PaceSteps
+pub mod Sizes
+pub mod AuthenticationSteps
+pub mod RequestSteps
+pub mod Calm
+pub mod CourseSteps
+pub mod Reaching
+pub mod Props
+pub mod KeyBytes
+pub mod OneWay
+pub mod Within

@@ -1,0 +1,11 @@
+-- What comes by the reply.
+use Rattle.std.proofs.Common.{sym}
+use Rattle.eid_terminal.proofs.Coming.{did_at}
+use Rattle.eid_terminal.proofs.AuthenticationSteps.{expected, unexpected}
+use Rattle.eid_terminal.proofs.authentication.after_signature.Goals as goal
+
+pub returns-then-not-is_done : goal.returns-then-not-is_done
+returns-then-not-is_done c plan = did_at plan _ _ _ (unexpected _ _ _ _ (sym c.if-not-is_done.ensures)) (c.stopped.ensures plan)
+
+pub returns : goal.returns
+returns c plan = did_at plan _ _ _ (expected _ _ _ _ (sym c.if-not-is_done.ensures)) (c.passed.ensures plan)

@@ -1,0 +1,12 @@
+-- What each state promises.
+use Rattle.eid_terminal.specs.Plans.{plan_view}
+use Rattle.eid_terminal.proofs.Reaching.{ready_goes, waiting_goes}
+use Rattle.eid_terminal.proofs.going.take_turn.Goals as goal
+
+pub returns-in-Ready-clause-goes : goal.returns-in-Ready-clause-goes
+returns-in-Ready-clause-goes g c =
+    ready_goes _ _ (plan_view c.args.plan.now) c.args.state c.in-Ready.ready c.args.reply c.go_on.result c.in-Ready.is c.requires.due c.go_on.ensures
+
+pub returns-in-Waiting-clause-goes : goal.returns-in-Waiting-clause-goes
+returns-in-Waiting-clause-goes g c =
+    waiting_goes _ _ (plan_view c.args.plan.now) c.args.state c.in-Waiting.waiting c.args.reply c.unwrap.result c.receive_and_hear.result c.in-Waiting.is c.unwrap.ensures c.receive_and_hear.ensures

@@ -1,0 +1,13 @@
+pub mod Plans
+pub mod Courses
+pub mod Moves
+pub mod Commands
+pub mod Replies
+pub mod Exchanges
+pub mod Pace
+pub mod Requests
+pub mod Authentication
+pub mod Terminals
+pub mod View
+pub mod ReplyView
+pub mod Seen

@@ -1,0 +1,146 @@
+//! Chip authentication, and the selection of the application (BSI TR-03110-2 and TR-03110-3; ISO/IEC 7816-4).
+ghost use Rattle.std.specs.Prelude.{◌≡◌, ◌≤◌, Option};
+ghost use Rattle.eid_apdu.specs.Answer.{plain_reply};
+ghost use Rattle.eid_ca.specs.Keys as keys;
+ghost use Rattle.eid_sm.specs.Keys.{ChannelState};
+ghost use Rattle.eid_terminal.specs.declared.action.Step.TheVariants as steps;
+ghost use Rattle.eid_terminal.specs.Authentication as course;
+ghost use Rattle.eid_terminal.specs.Authentication.{chip_token};
+ghost use Rattle.eid_terminal.specs.Commands as commands;
+ghost use Rattle.eid_terminal.specs.Courses.{Passes};
+ghost use Rattle.eid_terminal.specs.Exchanges.{exchange, expecting};
+ghost use Rattle.eid_terminal.specs.Pace.{channel_under};
+ghost use Rattle.eid_terminal.specs.Plans.{PlainPlan, plan_view};
+ghost use Rattle.eid_terminal.specs.Requests.{requests};
+ghost use Rattle.eid_terminal.specs.View.{Comes, Did, after_chip};
+
+use crate::action::Step;
+use crate::bodies::{authentication_data, protocol_selection};
+use crate::headers::{AUTHENTICATE, SELECT_APPLICATION, SELECT_PROTOCOL};
+use crate::line::send;
+use crate::plan::Plan;
+use crate::replies::{is_done, proof_in};
+use crate::state::{Awaited, ChipCommand, Pair, Standing, Turn};
+use crate::turns::{failed, passed, stopped};
+use eid_aes::Aes;
+use eid_apdu::Reply;
+use eid_base::Point;
+use eid_bits::Known;
+use eid_ca::keys::{enc_key, mac_key, token};
+use eid_copro::Coprocessor;
+use eid_sm::Channel;
+
+/// The terminal's point.
+const POINT: u16 = 0x80;
+
+/// The token for the terminal's point.
+fn chip_token(shared: &[u8; 32], nonce: &[u8; 8], point: &Point) -> [u8; 8]
+    ensures { result ≡ chip_token shared.now nonce.now point.now }
+{
+    let key = Aes::<10>::new(&mac_key(shared, nonce));
+    token(&key, Known::CaAes128, point)
+}
+
+/// The channel that chip authentication opens.
+fn channel_under(shared: &[u8; 32], nonce: &[u8; 8]) -> Option<Channel>
+    ensures { result ≡ channel_under (keys.enc_key shared.now nonce.now) (keys.mac_key shared.now nonce.now) }
+{
+    Some(Channel::new(enc_key(shared, nonce), mac_key(shared, nonce)))
+}
+
+/// Selects chip authentication.
+pub fn begin(channel: Option<Channel>, pair: Pair) -> Turn
+    ensures { (plan : PlainPlan) → Did plan result (course.authenticate_chip plan pair.secret pair.point channel) }
+{
+    send(
+        channel,
+        Awaited::Chip(ChipCommand::Selection { pair }),
+        SELECT_PROTOCOL,
+        &protocol_selection(Known::CaAes128),
+    )
+}
+
+/// Chip authentication was selected: sends the point.
+pub fn after_selection(channel: Option<Channel>, pair: Pair, reply: &Reply) -> Turn
+    ensures { (plan : PlainPlan) → Did plan result (expecting steps.Ca (exchange steps.Ca (commands.prove pair.point)
+        (course.after_proof plan pair.secret pair.point)) channel (plain_reply reply.now)) }
+{
+    if !is_done(reply) {
+        return stopped(Step::Ca, reply.status);
+    }
+    let body = authentication_data(POINT, &pair.point);
+    send(
+        channel,
+        Awaited::Chip(ChipCommand::Proof { pair }),
+        AUTHENTICATE,
+        &body,
+    )
+}
+
+/// The chip's nonce and token came: agrees on a secret with its static key. The token has to be the one for the
+/// terminal's point.
+pub fn after_proof<C: Coprocessor>(plan: &Plan, pair: &Pair, reply: &Reply, copro: &mut C) -> Turn
+    requires { 1 ≤ (C.seen copro.old).spare }
+    ensures { (channel : Option ChannelState) → Comes (C.seen copro.old) (C.seen copro.new) (plan_view plan.now) result
+        (course.after_proof (plan_view plan.now) pair.now.secret pair.now.point channel (plain_reply reply.now)) }
+{
+    let Some(proof) = proof_in(reply) else {
+        return stopped(Step::Ca, reply.status);
+    };
+    let Ok(agreement) = copro.agree(&pair.secret, &plan.chip_key) else {
+        return failed(Step::Ca);
+    };
+    let Some(shared) = agreement else {
+        return stopped(Step::Ca, reply.status);
+    };
+    if proof.token != chip_token(&shared, &proof.nonce, &pair.point) {
+        return stopped(Step::Ca, reply.status);
+    }
+    passed(
+        channel_under(&shared, &proof.nonce),
+        Step::Ca,
+        Standing::ChipProven,
+    )
+}
+
+/// Selects the application.
+pub fn select(channel: Option<Channel>) -> Turn
+    ensures { (plan : PlainPlan) → Did plan result (course.select plan channel) }
+{
+    send(
+        channel,
+        Awaited::Chip(ChipCommand::Application),
+        SELECT_APPLICATION,
+        Known::Application.bytes(),
+    )
+}
+
+/// The application was selected.
+pub fn after_application(channel: Option<Channel>, reply: &Reply) -> Turn
+    ensures { (plan : PlainPlan) → Did plan result (expecting steps.Select (λ selected. Passes steps.Select
+        (requests plan 0 plan.requests selected)) channel (plain_reply reply.now)) }
+{
+    if !is_done(reply) {
+        return stopped(Step::Select, reply.status);
+    }
+    passed(channel, Step::Select, Standing::Requests { place: 0 })
+}
+
+/// Goes on by the reply to a command of chip authentication, or to the selection behind it.
+pub fn hear<C: Coprocessor>(
+    plan: &Plan,
+    channel: Option<Channel>,
+    command: ChipCommand,
+    reply: &Reply,
+    copro: &mut C,
+) -> Turn
+    requires { 1 ≤ (C.seen copro.old).spare }
+    ensures { let p = plan_view plan.now in
+        Comes (C.seen copro.old) (C.seen copro.new) p result (after_chip p command channel (plain_reply reply.now)) }
+{
+    match command {
+        ChipCommand::Selection { pair } => after_selection(channel, pair, reply),
+        ChipCommand::Proof { pair } => after_proof(plan, &pair, reply, copro),
+        ChipCommand::Application => after_application(channel, reply),
+    }
+}

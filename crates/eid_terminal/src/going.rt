@@ -1,0 +1,183 @@
+//! How a terminal goes on, by a reply or without one.
+ghost use Rattle.std.specs.Prelude.{◌≡◌, ◌≤◌, false, is_some};
+ghost use Rattle.std.specs.Option.{option_copied};
+ghost use Rattle.eid_apdu.specs.Answer.{plain_reply};
+ghost use Rattle.eid_terminal.specs.Plans.{IsFit, plan_view};
+ghost use Rattle.eid_terminal.specs.Terminals as terminals;
+ghost use Rattle.eid_terminal.specs.Terminals.{Goes, behind_pace, course, move_seen, with_password};
+ghost use Rattle.eid_terminal.specs.View.{Comes, Did, HasPlace, Heard, IsSound, later_of, ready_course, state_view, step_of, terms_view};
+
+use crate::action::Step;
+use crate::line::receive;
+use crate::plan::Plan;
+use crate::requests::{self, last_step};
+use crate::state::{Awaited, ChipCommand, Ready, Round, Standing, State, Terms, Turn, Waiting};
+use crate::turns::stopped;
+use crate::{authentication, chip, pace};
+use arrayvec::ArrayVec;
+use eid_apdu::Reply;
+use eid_base::Status;
+use eid_copro::Coprocessor;
+use eid_record::Password;
+use eid_sm::Channel;
+
+/// What stands for the status of a reply that cannot be read or unsealed.
+const NO_STATUS: Status = Status(0x0000);
+
+/// What the PACE with the card access number is made with.
+fn can_terms(can: &[u8; 6]) -> Terms
+    ensures { terms_view result ≡ terminals.can_terms can.now }
+{
+    let mut digits = ArrayVec::new();
+    digits.try_extend_from_slice(can).unwrap();
+    Terms {
+        password: Password::Can,
+        digits,
+        template: None,
+    }
+}
+
+/// What the PACE with the password is made with.
+fn password_terms(plan: &Plan) -> Terms
+    ensures { terms_view result ≡ terminals.terms_of (plan_view plan.now) }
+{
+    let mut digits = ArrayVec::new();
+    digits.try_extend_from_slice(&plan.value).unwrap();
+    Terms {
+        password: plan.password,
+        digits,
+        template: plan.template,
+    }
+}
+
+/// Begins the PACE with the password.
+fn begin_with_password(plan: &Plan, channel: Option<Channel>) -> Turn
+    ensures { Did (plan_view plan.now) result (with_password (plan_view plan.now) channel) }
+{
+    pace::begin(channel, Round::Password, password_terms(plan))
+}
+
+/// Begins the first PACE.
+fn begin(plan: &Plan) -> Turn
+    ensures { Did (plan_view plan.now) result (course (plan_view plan.now)) }
+{
+    match &plan.can_first {
+        Some(can) => pace::begin(None, Round::Can, can_terms(can)),
+        None => begin_with_password(plan, None),
+    }
+}
+
+/// Goes on behind the PACE with the password: with the authentications where there are certificates, and else with the
+/// requests.
+fn go_on_behind_pace<C: Coprocessor>(
+    plan: &Plan,
+    channel: Option<Channel>,
+    identity: [u8; 32],
+    copro: &mut C,
+) -> Turn
+    requires fit { IsFit (plan_view plan.now) }
+    requires room { 1 ≤ (C.seen copro.old).spare }
+    ensures { Comes (C.seen copro.old) (C.seen copro.new) (plan_view plan.now) result (behind_pace (plan_view plan.now) channel identity) }
+{
+    if plan.certificates.as_slice().is_empty() {
+        return requests::ask(plan, channel, 0);
+    }
+    authentication::import(plan, channel, identity, 0, copro)
+}
+
+/// Goes on without a reply.
+fn go_on<C: Coprocessor>(plan: &Plan, ready: Ready, copro: &mut C) -> Turn
+    requires fit { IsFit (plan_view plan.now) }
+    requires room { 1 ≤ (C.seen copro.old).spare }
+    ensures { Comes (C.seen copro.old) (C.seen copro.new) (plan_view plan.now) result (ready_course (plan_view plan.now) ready.standing ready.channel) }
+{
+    let Ready { channel, standing } = ready;
+    match standing {
+        Standing::Start => begin(plan),
+        Standing::OpenedByCan => begin_with_password(plan, channel),
+        Standing::Opened { identity } => go_on_behind_pace(plan, channel, identity, copro),
+        Standing::TerminalProven { pair } => chip::begin(channel, pair),
+        Standing::ChipProven => chip::select(channel),
+        Standing::Requests { place } => requests::ask(plan, channel, place),
+    }
+}
+
+/// The last step begun where that command is sent.
+fn step_of(plan: &Plan, awaited: &Awaited) -> Step
+    ensures { result ≡ step_of (plan_view plan.now) awaited.now }
+{
+    match awaited {
+        Awaited::Pace(_) => Step::Pace,
+        Awaited::Terminal(_) => Step::Ta,
+        Awaited::Chip(ChipCommand::Application) => Step::Select,
+        Awaited::Chip(_) => Step::Ca,
+        Awaited::Request(_) => last_step(plan),
+    }
+}
+
+/// Goes on by a reply.
+fn hear<C: Coprocessor>(
+    plan: &Plan,
+    channel: Option<Channel>,
+    awaited: Awaited,
+    reply: Reply,
+    copro: &mut C,
+) -> Turn
+    requires fit { IsFit (plan_view plan.now) }
+    requires there { HasPlace (plan_view plan.now) awaited }
+    requires room { 2 ≤ (C.seen copro.old).spare }
+    ensures { let p = plan_view plan.now in
+        Comes (C.seen copro.old) (C.seen copro.new) p result (later_of p awaited channel (plain_reply reply)) }
+{
+    match awaited {
+        Awaited::Pace(command) => pace::hear(channel, command, &reply, copro),
+        Awaited::Terminal(command) => authentication::hear(plan, channel, command, &reply, copro),
+        Awaited::Chip(command) => chip::hear(plan, channel, command, &reply, copro),
+        Awaited::Request(command) => requests::hear(plan, channel, command, reply),
+    }
+}
+
+/// Goes on by bytes that may be a reply.
+fn receive_and_hear<C: Coprocessor>(
+    plan: &Plan,
+    waiting: Waiting,
+    bytes: &[u8],
+    copro: &mut C,
+) -> Turn
+    requires fit { IsFit (plan_view plan.now) }
+    requires there { HasPlace (plan_view plan.now) waiting.awaited }
+    requires room { 2 ≤ (C.seen copro.old).spare }
+    ensures { Heard (C.seen copro.old) (C.seen copro.new) (plan_view plan.now) waiting bytes.now result }
+{
+    let Waiting {
+        mut channel,
+        awaited,
+    } = waiting;
+    match receive(&mut channel, bytes) {
+        Some(reply) => hear(plan, channel, awaited, reply, copro),
+        None => stopped(step_of(plan, &awaited), NO_STATUS),
+    }
+}
+
+/// Takes a turn: goes on by the reply where one is due, and else without.
+pub fn take_turn<C: Coprocessor>(
+    plan: &Plan,
+    state: State,
+    reply: Option<&[u8]>,
+    copro: &mut C,
+) -> Turn
+    requires fit { IsFit (plan_view plan.now) }
+    requires there { IsSound (plan_view plan.now) state }
+    requires going { (state_view (plan_view plan.now) state).ended ≡ false }
+    requires due { is_some reply ≡ (state_view (plan_view plan.now) state).waits }
+    requires room { 2 ≤ (C.seen copro.old).spare }
+    ensures goes { let p = plan_view plan.now in Goes (C.seen copro.old) (C.seen copro.new) (state_view p state) (state_view p result.state)
+        (option_copied reply.entry) (move_seen result.action) }
+    ensures there { IsSound (plan_view plan.now) result.state }
+{
+    match state {
+        State::Ready(ready) => go_on(plan, ready, copro),
+        State::Waiting(waiting) => receive_and_hear(plan, waiting, reply.unwrap(), copro),
+        State::Ended(_) => unreachable!(),
+    }
+}

@@ -1,0 +1,41 @@
+//! How a turn of the terminal ends, where it sends nothing.
+ghost use Rattle.eid_apdu.specs.Answer.{plain_reply};
+ghost use Rattle.eid_terminal.specs.Courses.{Passes, Gives, Stops, Faults, Ends};
+ghost use Rattle.eid_terminal.specs.Plans.{PlainPlan};
+ghost use Rattle.eid_terminal.specs.View.{Did, ready_course};
+
+use crate::action::{Action, Step};
+use crate::state::{Ending, Ready, Standing, State, Turn};
+use eid_apdu::Reply;
+use eid_base::Status;
+use eid_sm::Channel;
+
+/// A step succeeded.
+pub fn passed(channel: Option<Channel>, step: Step, standing: Standing) -> Turn
+    ensures { (plan : PlainPlan) → Did plan result (Passes step (ready_course plan standing channel)) }
+{
+    Turn {
+        state: State::Ready(Ready { channel, standing }),
+        action: Action::Passed { step },
+    }
+}
+
+/// A step did not succeed.
+pub fn stopped(step: Step, status: Status) -> Turn
+    ensures { (plan : PlainPlan) → Did plan result (Stops step status.0) }
+{
+    Turn {
+        state: State::Ended(Ending::Stopped { step, status }),
+        action: Action::Stopped { step, status },
+    }
+}
+
+/// The coprocessor failed.
+pub fn failed(step: Step) -> Turn
+    ensures { (plan : PlainPlan) → Did plan result (Faults step) }
+{
+    Turn {
+        state: State::Ended(Ending::Fault { step }),
+        action: Action::Fault { step },
+    }
+}
