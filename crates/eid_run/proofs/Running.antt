@@ -519,6 +519,14 @@ pub ran_more : (opening : FullRecord) (start old new : Scene) (log_0 log log_now
     → DidLine old new log log_now line before now → Keeps old new line → IsRunSoFar opening start new log_0 log_now (lines ++ line ∷ []) first now
 ran_more opening start old new log_0 log log_now lines line first before now tells run did keeps = more did.happened opening start old new log_0 log log_now lines line first before now tells run did.made keeps did.written
 
+pub ran_happened : (opening : FullRecord) (start old new : Scene) (log_0 log log_now : List Ask) (lines : List ScriptLine) (line : ScriptLine) (first before now : SinkSeen) (tells : before.tells ≡ first.tells) (run : IsRunSoFar opening start old log_0 log lines first before)
+    (did : DidLine old new log log_now line before now) (keeps : Keeps old new line) → (ran_more opening start old new log_0 log log_now lines line first before now tells run did keeps).happened ≡ did.happened ∷ run.happened
+unfolding ran_more more
+ran_happened opening start old new log_0 log log_now lines line first before now tells run did keeps = by did.happened did.made did.written where
+  by : (h : LineEffect) (made : IsLine old new log log_now line h) (written : IsTrue before.tells → Grew before.written now.written (text_of h)) → (more h opening start old new log_0 log log_now lines line first before now tells run made keeps written).happened ≡ h ∷ run.happened
+  by (Did m) made written = refl
+  by (Planned write tear) made written = refl
+
 whole_front : (moments : List PlainMoment) → IsFrontOfTrace (trace moments) moments
 whole_front [] = refl
 whole_front (m ∷ before) = (text m, ([], append-nil (text m)), refl)

@@ -1,5 +1,5 @@
 //! Running the lines of a script.
-ghost use Rattle.std.specs.Prelude.{◌≡◌, ◌≤◌, List, drop, length, Some, IsSome, IsTrue, OnOk, OnErr, map, option_map};
+ghost use Rattle.std.specs.Prelude.{◌≡◌, ◌≤◌, List, drop, length, Some, IsSome, IsTrue, IfOk, OnOk, OnErr, map, option_map};
 ghost use Rattle.eid_base.specs.Seen.{Grew, GrewByPart};
 ghost use Rattle.eid_record.specs.Plain.{FullRecord};
 ghost use Rattle.eid_copro.specs.declared.ask.Ask.{Ask as LogAsk};
@@ -16,7 +16,7 @@ ghost use Rattle.eid_run.specs.Lines.{Keeps, IsLine, DidLine, BrokeOffLine};
 ghost use Rattle.eid_run.specs.Sinks.{TellsFault};
 
 use eid_apdu::Command;
-use eid_base::{IoError, Rule, RunError, Sink};
+use eid_base::{IoError, NoMemory, Rule, RunError, Sink};
 use eid_cells::{Eeprom, Tear};
 use eid_chip::{Chip, Exchange, HandledIn};
 use eid_copro::{Ask, Coprocessor};
@@ -28,6 +28,19 @@ use std::alloc::Global;
 
 /// How many questions a command can put.
 const QUESTIONS: usize = 2;
+
+/// Writes a text in one piece.
+pub fn print<K: Sink>(text: &Text, out: &mut K) -> Result<(), RunError>
+    ensures whole { OnOk result (IsTrue (K.seen out.old).tells → Grew (K.seen out.old).written (K.seen out.new).written text.now) }
+    ensures part { OnErr result (IsTrue (K.seen out.old).tells → GrewByPart (K.seen out.old).written (K.seen out.new).written text.now) }
+    ensures sink { TellsFault (K.seen out.old) (K.seen out.new) result }
+{
+    match out.put(text.as_bytes()) {
+        Ok(()) => Ok(()),
+        Err(IoError::NoMemory) => Err(RunError::NoMemory),
+        Err(_) => Err(RunError::SinkFault),
+    }
+}
 
 /// Writes the text of a moment.
 fn tell<K: Sink>(m: &MomentRef<'_>, text: &mut Text, out: &mut K) -> Result<(), RunError>
@@ -41,11 +54,7 @@ fn tell<K: Sink>(m: &MomentRef<'_>, text: &mut Text, out: &mut K) -> Result<(), 
     if text.put_moment(m).is_err() {
         return Err(RunError::NoMemory);
     }
-    match out.put(text.as_bytes()) {
-        Ok(()) => Ok(()),
-        Err(IoError::NoMemory) => Err(RunError::NoMemory),
-        Err(_) => Err(RunError::SinkFault),
-    }
+    print(text, out)
 }
 
 /// A moment without answer and without questions.
@@ -120,7 +129,7 @@ fn number_found(mounted: Result<u32, MountError>) -> Option<u32>
 }
 
 /// Gives the chip power.
-fn power_on<'a, E: Eeprom>(chip: &mut Chip, cells: &mut E) -> InputRef<'a>
+pub fn power_on<'a, E: Eeprom>(chip: &mut Chip, cells: &mut E) -> InputRef<'a>
     requires { IsSome (stands (E.cells cells.old)) }
     ensures made { (log : List LogAsk) → IsLine (scene chip.old (E.device cells.old) (E.cells cells.old))
         (scene chip.new (E.device cells.new) (E.cells cells.new)) log log OnLine (Did (model.silent (view.event_ref result))) }
@@ -150,6 +159,30 @@ fn asks_since<C: Coprocessor>(copro: &C, before: usize) -> &[Ask]
     &copro.log()[before..]
 }
 
+/// Hands the bytes of a command to the chip, with room for its questions.
+pub fn handle<E: Eeprom, C: Coprocessor>(
+    chip: &mut Chip,
+    bytes: &[u8],
+    cells: &mut E,
+    copro: &mut C,
+    exchange: &mut Exchange,
+) -> Result<HandledIn, NoMemory>
+    requires { IsSound (scene chip.old (E.device cells.old) (E.cells cells.old)) }
+    ensures made { IfOk result (λ came. IsLine (scene chip.old (E.device cells.old) (E.cells cells.old))
+        (scene chip.new (E.device cells.new) (E.cells cells.new)) (C.seen copro.old).log (C.seen copro.new).log (ApduLine bytes.now)
+        (Did (moment_of bytes.now (drop (length (C.seen copro.old).log) (C.seen copro.new).log) (came_in exchange.new came)))) }
+    ensures unmade { OnErr result ((scene chip.new (E.device cells.new) (E.cells cells.new)
+        ≡ scene chip.old (E.device cells.old) (E.cells cells.old)) × ((C.seen copro.new).log ≡ (C.seen copro.old).log)) }
+    ensures keeps { Keeps (scene chip.old (E.device cells.old) (E.cells cells.old))
+        (scene chip.new (E.device cells.new) (E.cells cells.new)) (ApduLine bytes.now) }
+    ensures told { (C.seen copro.new).told ≡ (C.seen copro.old).told }
+{
+    if copro.make_room(QUESTIONS).is_err() {
+        return Err(NoMemory);
+    }
+    Ok(chip.handle_in(bytes, cells, copro, exchange))
+}
+
 /// Hands the bytes of a command to the chip, with room for its questions, and writes their moment.
 fn hand_over<E: Eeprom, C: Coprocessor, K: Sink>(
     chip: &mut Chip,
@@ -172,11 +205,10 @@ fn hand_over<E: Eeprom, C: Coprocessor, K: Sink>(
     ensures told { (C.seen copro.new).told ≡ (C.seen copro.old).told }
     ensures sink { TellsFault (K.seen out.old) (K.seen out.new) result }
 {
-    if copro.make_room(QUESTIONS).is_err() {
-        return Err(RunError::NoMemory);
-    }
     let before = copro.log().len();
-    let came = chip.handle_in(bytes, cells, copro, exchange);
+    let Ok(came) = handle(chip, bytes, cells, copro, exchange) else {
+        return Err(RunError::NoMemory);
+    };
     let asks = asks_since(copro, before);
     tell(&moment_of(bytes, asks, came, exchange), text, out)
 }

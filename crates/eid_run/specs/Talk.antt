@@ -1,0 +1,148 @@
+-- Inside: cited by private contracts alone.
+-- A session so far, and what one turn of it does.
+use Rattle.std.specs.Prelude.{◌≡◌, ◌⊎◌, ℕ, ◌+◌, true, false, List, [], ◌++◌, map, length, Option, Some, None, IsTrue, is_some, option_map, if◌then◌else◌}
+use Rattle.std.specs.Option.{option_to_list}
+use Rattle.eid_base.specs.Seen.{SinkSeen, Grew, GrewByPart}
+use Rattle.std.specs.List.{slice_get}
+use Rattle.eid_chip.specs.Fits.{Came, Silence, Answer, Loss, Scene, IsSound}
+use Rattle.eid_model.specs.Moments.{PlainMoment}
+use Rattle.eid_copro.specs.Seen.{CoproSeen}
+use Rattle.eid_copro.specs.declared.ask.Ask.{Ask}
+use Rattle.eid_record.specs.Plain.{FullRecord}
+use Rattle.eid_script.specs.Scripts.{ApduLine}
+use Rattle.eid_terminal.specs.declared.action.Action.{Action}
+use Rattle.eid_terminal.specs.declared.plan.Request.{Request}
+use Rattle.eid_terminal.specs.Moves.{Move, move_of}
+use Rattle.eid_terminal.specs.Moves as moves
+use Rattle.eid_terminal.specs.Plans.{PlainPlan}
+use Rattle.eid_terminal.specs.Terminals.{Goes, TerminalView, course, move_seen}
+use Rattle.eid_run.specs.Conversations.{Exchange, IsEnd, Told, Talks, reply_of}
+use Rattle.eid_run.specs.Lines.{IsLine, IsRunSoFar, Keeps}
+use Rattle.eid_run.specs.Report.{asked_line, fault_line, passed_line, stop_line, stopped_line, told_lines}
+use Rattle.eid_run.specs.Runs.{Did, journal}
+use Rattle.eid_run.specs.Sessions.{replied, replies_in, session_lines}
+use Rattle.eid_run.specs.declared.session.Due.{Due}
+use Rattle.eid_run.specs.declared.session.Due.TheVariants.{Nothing, Sent, NoBytes}
+
+-- a sink that tells nothing: a session writes no trace
+abbrev pub untold : SinkSeen
+untold = record { tells = false; written = []; faults = 0 }
+
+-- the bytes that came back
+abbrev pub sent_back : Came → List ℕ
+sent_back Silence = []
+sent_back (Answer plain finished rule reply sent) = sent
+sent_back (Loss plain finished) = []
+
+-- the reply that is due, where the exchange holds these bytes
+abbrev pub due_bytes : Due → List ℕ → Option (List ℕ)
+due_bytes Nothing sent = None
+due_bytes Sent sent = Some sent
+due_bytes NoBytes sent = Some []
+
+-- what a terminal that told this has had written, once it stands there
+abbrev pub written_so_far : PlainPlan → List Told → TerminalView → List ℕ
+written_so_far plan told terminal = told_lines plan told ++ (if terminal.ended then stop_line terminal.course else [])
+
+-- ---- one turn
+
+-- the line of a report that a move is told by, if it is
+abbrev pub turn_line : List Request → Move → List ℕ
+turn_line requests (moves.Asks question) = []
+turn_line requests (moves.Sends bytes) = []
+turn_line requests (moves.Passes step) = passed_line step
+turn_line requests (moves.Gives place reply) = asked_line (slice_get requests place) reply
+turn_line requests (moves.Stops step status) = stopped_line step status
+turn_line requests (moves.Faults step) = fault_line step
+turn_line requests moves.Ends = []
+
+-- the chip handled these bytes, and this came back
+pub record ChipReplied (old new : Scene) (log log_now : List Ask) (bytes : List ℕ) (due : Option (List ℕ)) : Type 0 where
+  pub moment : PlainMoment
+  pub made : IsLine old new log log_now (ApduLine bytes) (Did moment)
+  pub keeps : Keeps old new (ApduLine bytes)
+  pub brought : due ≡ Some (replied moment)
+
+-- the chip was left alone
+abbrev pub IsLeftAlone : Scene → Scene → List Ask → List Ask → Type 0
+IsLeftAlone old new log log_now = (new ≡ old) × (log_now ≡ log)
+
+-- a command is handed to the chip; by anything else it is left alone, and no reply is due
+abbrev pub ChipDid : Scene → Scene → List Ask → List Ask → Option (List ℕ) → Move → Type 0
+ChipDid old new log log_now due (moves.Asks question) = IsLeftAlone old new log log_now × (due ≡ None)
+ChipDid old new log log_now due (moves.Sends bytes) = ChipReplied old new log log_now bytes due
+ChipDid old new log log_now due (moves.Passes step) = IsLeftAlone old new log log_now × (due ≡ None)
+ChipDid old new log log_now due (moves.Gives place reply) = IsLeftAlone old new log log_now × (due ≡ None)
+ChipDid old new log log_now due (moves.Stops step status) = IsLeftAlone old new log log_now × (due ≡ None)
+ChipDid old new log log_now due (moves.Faults step) = IsLeftAlone old new log log_now × (due ≡ None)
+ChipDid old new log log_now due moves.Ends = IsLeftAlone old new log log_now × (due ≡ None)
+
+-- where a session stands: the chip, the log of its coprocessor, the terminal's coprocessor, the terminal, the reply that
+-- is due, and the sink
+pub record Standing : Type 0 where
+  pub scene : Scene
+  pub log : List Ask
+  pub copro : CoproSeen
+  pub terminal : TerminalView
+  pub due : Option (List ℕ)
+  pub sink : SinkSeen
+
+abbrev pub standing : Scene → List Ask → CoproSeen → TerminalView → Option (List ℕ) → SinkSeen → Standing
+standing scene log copro terminal due sink =
+    record { scene = scene; log = log; copro = copro; terminal = terminal; due = due; sink = sink }
+
+-- the terminal took its turn, the chip did what it was asked to, and the turn was told
+pub record DidTurn (requests : List Request) (old new : Standing) : Type 0 where
+  pub asked : CoproSeen
+  pub room : asked.log ≡ old.copro.log
+  pub action : Action
+  pub goes : Goes asked new.copro old.terminal new.terminal old.due (move_seen action)
+  pub chip : ChipDid old.scene new.scene old.log new.log new.due (move_seen action)
+  pub written : IsTrue old.sink.tells → Grew old.sink.written new.sink.written (turn_line requests (move_seen action))
+
+-- the turn broke off: it was not taken, or it was not told whole, or the chip had no room for a command's questions
+pub record PartOfTurn (requests : List Request) (old new : Standing) : Type 0 where
+  pub asked : CoproSeen
+  pub room : asked.log ≡ old.copro.log
+  pub action : Action
+  pub goes : Goes asked new.copro old.terminal new.terminal old.due (move_seen action)
+  pub chip : IsLeftAlone old.scene new.scene old.log new.log
+  pub written : IsTrue old.sink.tells → GrewByPart old.sink.written new.sink.written (turn_line requests (move_seen action))
+
+pub record NoTurn (old new : Standing) : Type 0 where
+  pub log : new.copro.log ≡ old.copro.log
+  pub terminal : new.terminal ≡ old.terminal
+  pub due : new.due ≡ old.due
+  pub chip : IsLeftAlone old.scene new.scene old.log new.log
+  pub written : IsTrue old.sink.tells → new.sink.written ≡ old.sink.written
+
+abbrev pub BrokeTurn : List Request → Standing → Standing → Type 0
+BrokeTurn requests old new = NoTurn old new ⊎ PartOfTurn requests old new
+
+-- what each turn leaves
+pub record KeepsOn (old new : Standing) : Type 0 where
+  pub sound : IsSound new.scene
+  pub told : new.copro.told ≡ old.copro.told
+
+-- ---- the session so far
+
+-- the turns that it took: in each a command was sent, or something told
+abbrev pub turns : List Exchange → Option Exchange → List Told → ℕ
+turns exchanges pending told = length (exchanges ++ option_to_list pending) + length told
+
+-- from where it began to where it stands
+pub record IsTalkSoFar (plan : PlainPlan) (opening : FullRecord) (start : Scene) (first now : Standing) (taken : ℕ) : Type 0 where
+  pub asks : List Ask
+  pub exchanges : List Exchange
+  pub told : List Told
+  pub pending : Option Exchange
+  pub talks : Talks (course plan) asks exchanges told now.terminal.course
+  pub sends : (e : Exchange) → pending ≡ Some e → move_of now.terminal.course ≡ moves.Sends e.command
+  pub due_is : now.due ≡ option_map reply_of pending
+  pub waits : now.terminal.waits ≡ is_some pending
+  pub logged : now.copro.log ≡ first.copro.log ++ asks
+  pub run : IsRunSoFar opening start now.scene first.log now.log (session_lines (exchanges ++ option_to_list pending)) untold untold
+  pub replies : replies_in (journal run.happened) ≡ map reply_of (exchanges ++ option_to_list pending)
+  pub written : IsTrue first.sink.tells → Grew first.sink.written now.sink.written (written_so_far plan told now.terminal)
+  pub counted : now.terminal.ended ≡ false → taken ≡ turns exchanges pending told
+  pub over : now.terminal.ended ≡ true → IsEnd now.terminal.course × (pending ≡ None)

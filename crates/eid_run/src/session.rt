@@ -1,0 +1,236 @@
+//! A session: a terminal and a chip together.
+ghost use Rattle.std.specs.Prelude.{◌≡◌, false, Some, is_some, IsSome, IsTrue, IfOk, OnOk, OnErr, slice_index};
+ghost use Rattle.std.specs.Option.{option_copied};
+ghost use Rattle.eid_base.specs.Seen.{Grew, GrewByPart};
+ghost use Rattle.eid_chip.specs.Fits.{IsSound, came_in, scene};
+ghost use Rattle.eid_script.specs.Scripts.{ApduLine};
+ghost use Rattle.eid_terminal.specs.Seen.{terminal_view};
+ghost use Rattle.eid_run.specs.Lines.{Keeps};
+ghost use Rattle.eid_chip.specs.declared.exchange.Exchange.{Exchange as ExchangeSeen};
+ghost use Rattle.eid_terminal.specs.Terminals.{move_seen};
+ghost use Rattle.eid_run.specs.Talk.{BrokeTurn, ChipReplied, DidTurn, IsLeftAlone, due_bytes, sent_back, standing, turn_line};
+ghost use Rattle.eid_record.specs.Plain.{FullRecord};
+ghost use Rattle.eid_store.specs.Stands.{stands};
+ghost use Rattle.eid_terminal.specs.Plans.{IsFit, plan_view};
+ghost use Rattle.eid_run.specs.Runs.{outside};
+ghost use Rattle.eid_run.specs.Sessions.{DidPartOfSession, DidSession};
+ghost use Rattle.eid_run.specs.Sinks.{TellsFault};
+
+use crate::report::{put_asked, put_failed, put_passed, put_stopped};
+use crate::run::{handle, power_on, print};
+use eid_base::{NoMemory, RunError, Sink};
+use eid_cells::Eeprom;
+use eid_chip::{Chip, Exchange, HandledIn};
+use eid_copro::Coprocessor;
+use eid_model::Text;
+use eid_terminal::{Action, MAX_TURNS, Plan, Request, Terminal};
+use std::alloc::Global;
+
+/// How many questions a turn of the terminal can put.
+const QUESTIONS: usize = 3;
+/// A terminal has ended after fewer turns: in each it sends a command or tells something, and one command may wait for
+/// its reply.
+const MOST_TURNS: usize = MAX_TURNS + 2;
+
+/// The reply that the terminal waits for.
+#[derive(Clone, Copy)]
+enum Due {
+    /// It waits for none.
+    Nothing,
+    /// That which the exchange holds.
+    Sent,
+    /// No bytes came back.
+    NoBytes,
+}
+
+/// The bytes that came back, where a reply is due.
+fn due_reply<'a>(due: Due, exchange: &'a Exchange) -> Option<&'a [u8]>
+    ensures { option_copied result ≡ due_bytes due exchange.now.sent.items }
+{
+    match due {
+        Due::Nothing => None,
+        Due::Sent => Some(exchange.sent.as_slice()),
+        Due::NoBytes => Some(&[]),
+    }
+}
+
+/// What is due of what came of a command.
+fn due_of(came: HandledIn) -> Due
+    ensures { (exchange : ExchangeSeen) → due_bytes result exchange.sent.items ≡ Some (sent_back (came_in exchange came)) }
+{
+    match came {
+        HandledIn::Silent => Due::NoBytes,
+        HandledIn::Answered { .. } => Due::Sent,
+        HandledIn::Lost { .. } => Due::NoBytes,
+    }
+}
+
+/// Makes the text the line by which an action is told, empty where it is not.
+fn put_line(text: &mut Text, requests: &[Request], action: &Action) -> Result<(), NoMemory>
+    ensures { OnOk result (text.new ≡ turn_line requests.now (move_seen action.now)) }
+{
+    text.clear();
+    match action {
+        Action::Send(_) => Ok(()),
+        Action::Result { request, reply } => {
+            put_asked(text, requests.get(usize::from(*request)).copied(), reply)
+        }
+        Action::Passed { step } => put_passed(text, *step),
+        Action::Done => Ok(()),
+        Action::Stopped { step, status } => put_stopped(text, *step, *status),
+        Action::Fault { step } => put_failed(text, *step),
+    }
+}
+
+/// Tells an action, on a line of the report if it has one.
+fn tell<K: Sink>(
+    requests: &[Request],
+    action: &Action,
+    text: &mut Text,
+    out: &mut K,
+) -> Result<(), RunError>
+    ensures whole { OnOk result (IsTrue (K.seen out.old).tells
+        → Grew (K.seen out.old).written (K.seen out.new).written (turn_line requests.now (move_seen action.now))) }
+    ensures part { OnErr result (IsTrue (K.seen out.old).tells
+        → GrewByPart (K.seen out.old).written (K.seen out.new).written (turn_line requests.now (move_seen action.now))) }
+    ensures sink { TellsFault (K.seen out.old) (K.seen out.new) result }
+{
+    if put_line(text, requests, action).is_err() {
+        return Err(RunError::NoMemory);
+    }
+    if text.as_bytes().is_empty() {
+        return Ok(());
+    }
+    print(text, out)
+}
+
+/// Hands a command to the chip, and says what is due then.
+fn answer<E: Eeprom, C: Coprocessor>(
+    chip: &mut Chip,
+    bytes: &[u8],
+    cells: &mut E,
+    copro: &mut C,
+    exchange: &mut Exchange,
+) -> Result<Due, NoMemory>
+    requires { IsSound (scene chip.old (E.device cells.old) (E.cells cells.old)) }
+    ensures replied { IfOk result (λ due. ChipReplied (scene chip.old (E.device cells.old) (E.cells cells.old))
+        (scene chip.new (E.device cells.new) (E.cells cells.new)) (C.seen copro.old).log (C.seen copro.new).log bytes.now
+        (due_bytes due exchange.new.sent.items)) }
+    ensures alone { OnErr result (IsLeftAlone (scene chip.old (E.device cells.old) (E.cells cells.old))
+        (scene chip.new (E.device cells.new) (E.cells cells.new)) (C.seen copro.old).log (C.seen copro.new).log) }
+    ensures keeps { Keeps (scene chip.old (E.device cells.old) (E.cells cells.old))
+        (scene chip.new (E.device cells.new) (E.cells cells.new)) (ApduLine bytes.now) }
+    ensures told { (C.seen copro.new).told ≡ (C.seen copro.old).told }
+{
+    match handle(chip, bytes, cells, copro, exchange) {
+        Ok(came) => Ok(due_of(came)),
+        Err(error) => Err(error),
+    }
+}
+
+/// Takes one turn: the terminal goes on, by the reply where one is due; its command is handed to the chip, and what it
+/// tells is written.
+fn take_turn<E: Eeprom, C: Coprocessor, D: Coprocessor, K: Sink>(
+    chip: &mut Chip,
+    terminal: &mut Terminal,
+    due: &mut Due,
+    requests: &[Request],
+    cells: &mut E,
+    chip_copro: &mut C,
+    terminal_copro: &mut D,
+    exchange: &mut Exchange,
+    text: &mut Text,
+    out: &mut K,
+) -> Result<(), RunError>
+    requires sound { IsSound (scene chip.old (E.device cells.old) (E.cells cells.old)) }
+    requires going { (terminal_view terminal.old).ended ≡ false }
+    requires waits { is_some (due_bytes due.old exchange.old.sent.items) ≡ (terminal_view terminal.old).waits }
+    ensures did { OnOk result (DidTurn requests.now
+        (standing (scene chip.old (E.device cells.old) (E.cells cells.old)) (C.seen chip_copro.old).log (D.seen terminal_copro.old)
+        (terminal_view terminal.old) (due_bytes due.old exchange.old.sent.items) (K.seen out.old))
+        (standing (scene chip.new (E.device cells.new) (E.cells cells.new)) (C.seen chip_copro.new).log (D.seen terminal_copro.new)
+        (terminal_view terminal.new) (due_bytes due.new exchange.new.sent.items) (K.seen out.new))) }
+    ensures broke { OnErr result (BrokeTurn requests.now
+        (standing (scene chip.old (E.device cells.old) (E.cells cells.old)) (C.seen chip_copro.old).log (D.seen terminal_copro.old)
+        (terminal_view terminal.old) (due_bytes due.old exchange.old.sent.items) (K.seen out.old))
+        (standing (scene chip.new (E.device cells.new) (E.cells cells.new)) (C.seen chip_copro.new).log (D.seen terminal_copro.new)
+        (terminal_view terminal.new) (due_bytes due.new exchange.new.sent.items) (K.seen out.new))) }
+    ensures sound { IsSound (scene chip.new (E.device cells.new) (E.cells cells.new)) }
+    ensures layout { slice_index (E.cells cells.new) 0 ≡ slice_index (E.cells cells.old) 0 }
+    ensures chip_told { (C.seen chip_copro.new).told ≡ (C.seen chip_copro.old).told }
+    ensures terminal_told { (D.seen terminal_copro.new).told ≡ (D.seen terminal_copro.old).told }
+    ensures sink { TellsFault (K.seen out.old) (K.seen out.new) result }
+{
+    if terminal_copro.make_room(QUESTIONS).is_err() {
+        return Err(RunError::NoMemory);
+    }
+    let action = terminal.next(due_reply(*due, exchange), terminal_copro);
+    if let Action::Send(bytes) = &action {
+        let Ok(replied) = answer(chip, bytes.as_slice(), cells, chip_copro, exchange) else {
+            return Err(RunError::NoMemory);
+        };
+        *due = replied;
+        return Ok(());
+    }
+    *due = Due::Nothing;
+    tell(requests, &action, text, out)
+}
+
+/// Runs a terminal and a chip together: the chip is given power, then the terminal carries out its plan, each of its
+/// commands is handed to the chip, and what it tells is written, a line each. The device's cells stand for a record.
+///
+/// # Errors
+/// `SinkFault` only where the sink's count of faults rose, else `NoMemory`. A front of the report was written then.
+pub fn run_session<E: Eeprom, C: Coprocessor, D: Coprocessor, K: Sink>(
+    alloc: Global,
+    plan: Plan,
+    cells: &mut E,
+    chip_copro: &mut C,
+    terminal_copro: &mut D,
+    out: &mut K,
+) -> Result<(), RunError>
+    requires stands { IsSome (stands (E.cells cells.old)) }
+    requires fit { IsFit (plan_view plan) }
+    ensures did { OnOk result ((opening : FullRecord) → stands (E.cells cells.old) ≡ Some opening
+        → DidSession (plan_view plan) opening
+        (outside (E.device cells.old) (E.cells cells.old) (C.seen chip_copro.old) (K.seen out.old))
+        (outside (E.device cells.new) (E.cells cells.new) (C.seen chip_copro.new) (K.seen out.new))
+        (D.seen terminal_copro.old) (D.seen terminal_copro.new)) }
+    ensures broke { OnErr result ((opening : FullRecord) → stands (E.cells cells.old) ≡ Some opening
+        → DidPartOfSession (plan_view plan) opening
+        (outside (E.device cells.old) (E.cells cells.old) (C.seen chip_copro.old) (K.seen out.old))
+        (outside (E.device cells.new) (E.cells cells.new) (C.seen chip_copro.new) (K.seen out.new))
+        (D.seen terminal_copro.old) (D.seen terminal_copro.new)) }
+    ensures sink { TellsFault (K.seen out.old) (K.seen out.new) result }
+{
+    let mut chip = Chip::new();
+    let mut requests = Vec::new(alloc);
+    let Ok(()) = requests.extend_from_slice(plan.requests.as_slice()) else {
+        return Err(RunError::NoMemory);
+    };
+    let mut terminal = Terminal::new(plan);
+    let mut due = Due::Nothing;
+    let mut exchange = Exchange::new();
+    let mut text = Text::new(alloc);
+    power_on(&mut chip, cells);
+    for _ in 0..MOST_TURNS {
+        if let Err(error) = take_turn(
+            &mut chip,
+            &mut terminal,
+            &mut due,
+            requests.as_slice(),
+            cells,
+            chip_copro,
+            terminal_copro,
+            &mut exchange,
+            &mut text,
+            out,
+        ) {
+            return Err(error);
+        }
+        if terminal.ended() {
+            return Ok(());
+        }
+    }
+    unreachable!()
+}
