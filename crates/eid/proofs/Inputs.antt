@@ -8,11 +8,11 @@ use Rattle.eid.specs.declared.exit.Exit.TheVariants.{Done, Usage, FileFault, NoM
 use Rattle.eid_text.specs.Lines.{text_limit}
 use Rattle.eid_script.specs.Scripts.{script_of}
 use Rattle.eid_copro.specs.Lines.{answers_of}
-use Rattle.eid_perso.specs.Reading.{config_of, document_in, kit_of_text}
+use Rattle.eid_perso.specs.Reading.{config_of, document_in, kit_of_text, plan_of_text}
 use Rattle.eid.specs.Images.{record_of}
 use Rattle.eid_record.specs.Plain.{FullRecord}
 use Rattle.eid_store.specs.Stands.{stands}
-use Rattle.eid.specs.Inputs.{image_in, script_in, answers_in, config_in, kit_in, or_bad}
+use Rattle.eid.specs.Inputs.{image_in, script_in, answers_in, config_in, kit_in, plan_in, or_bad}
 use Rattle.eid.specs.Loads.{IsRefused, IsBad}
 
 -- the image, where the file holds these bytes
@@ -126,6 +126,24 @@ kit_long (Some text) long = kit_is (Some text) text refl ∙ ap (or_bad BadConfi
 pub kit_absent : (file : Option (List ℕ)) → file ≡ None → kit_in file ≡ Err FileFault
 unfolding kit_in
 kit_absent file is = rw is refl
+
+pub plan_is : (file : Option (List ℕ)) (text : List ℕ) → file ≡ Some text → plan_in file ≡ or_bad BadConfig (plan_of_text text)
+unfolding plan_in
+plan_is file text is = rw is refl
+
+long_plan : (text : List ℕ) → 1048576 < length text → plan_of_text text ≡ Err 0
+unfolding plan_of_text document_in
+long_plan text long =
+    let beyond : nat_le (length text) 1048576 ≡ false = grind (arith, nat_tests) in
+    rw beyond refl
+
+pub plan_long : (file : Option (List ℕ)) → IsSomeAnd file (λ text. 1048576 < length text) → plan_in file ≡ Err (BadConfig 0)
+plan_long None long = absurd long
+plan_long (Some text) long = plan_is (Some text) text refl ∙ ap (or_bad BadConfig) (long_plan text long)
+
+pub plan_absent : (file : Option (List ℕ)) → file ≡ None → plan_in file ≡ Err FileFault
+unfolding plan_in
+plan_absent file is = rw is refl
 
 -- from the image of the bytes to the image of the file
 pub image_stands : (r : Result (Vec ℕ Global) Exit) (bytes : Vec ℕ Global) → IfOk r (λ image. (image ≡ bytes) × (length bytes.items ≡ 65536) × IsSome (stands bytes.items)) → IfOk r (λ cells. (length cells.items ≡ 65536) × IsSome (stands cells.items))

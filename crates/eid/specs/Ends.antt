@@ -9,7 +9,9 @@ use Rattle.eid_copro.specs.declared.ask.Ask.{Ask}
 use Rattle.eid_script.specs.Scripts.{ScriptLine}
 use Rattle.eid.specs.declared.exit.Exit.{Exit}
 use Rattle.eid.specs.declared.exit.Exit.TheVariants.{Done, Usage, FileFault, NoMemory, BadImage, BadScript, BadConfig, SinkFault, BadAnswers}
+use Rattle.eid_terminal.specs.Plans.{PlainPlan}
 use Rattle.eid.specs.Run.{Setup, RunFinished, RunBrokeOff, RunNotStored}
+use Rattle.eid.specs.Session.{Meeting, SessionFinished, SessionBrokeOff, SessionNotStored}
 use Rattle.eid_base.specs.declared.codes.RunError.{RunError}
 use Rattle.eid_base.specs.declared.codes.RunError.TheVariants as run
 use Rattle.eid_base.specs.declared.outside.IoError.{IoError}
@@ -33,6 +35,21 @@ IsEndOfRun image source s old new before now BadImage = ⊥
 IsEndOfRun image source s old new before now (BadScript line) = ⊥
 IsEndOfRun image source s old new before now (BadConfig key) = ⊥
 IsEndOfRun image source s old new before now (BadAnswers line) = ⊥
+
+abbrev pub meeting : FullRecord → List ℕ → PlainPlan → Meeting
+meeting opening cells plan = record { opening = opening; cells = cells; plan = plan }
+
+-- how a session that had its inputs ended, by the exit
+abbrev pub IsEndOfSession : (image : List ℕ) → (start : ℕ) → Meeting → FolderSeen → FolderSeen → SinkSeen → SinkSeen → Exit → Type 0
+IsEndOfSession image start s old new before now Done = SessionFinished image start s old new before now
+IsEndOfSession image start s old new before now SinkFault = SessionBrokeOff start s old new before now × Rose before.faults now.faults
+IsEndOfSession image start s old new before now FileFault = SessionNotStored image start s old new before now × Rose old.faults new.faults
+IsEndOfSession image start s old new before now NoMemory = SessionBrokeOff start s old new before now ⊎ SessionNotStored image start s old new before now
+IsEndOfSession image start s old new before now Usage = ⊥
+IsEndOfSession image start s old new before now BadImage = ⊥
+IsEndOfSession image start s old new before now (BadScript line) = ⊥
+IsEndOfSession image start s old new before now (BadConfig key) = ⊥
+IsEndOfSession image start s old new before now (BadAnswers line) = ⊥
 
 -- of a run that broke off, of a file that was not stored, and of a text that was not printed
 abbrev pub exit_broken : RunError → Exit

@@ -6,10 +6,11 @@ use Rattle.eid_copro.specs.declared.ask.Answer.{Answer}
 use Rattle.eid_copro.specs.Lines.{answers_of}
 use Rattle.eid_perso.specs.Config.{PlainConfig}
 use Rattle.eid_perso.specs.Kit.{PlainKit}
+use Rattle.eid_terminal.specs.Plans.{PlainPlan}
 use Rattle.eid.specs.declared.exit.Exit.{Exit}
 use Rattle.eid.specs.declared.exit.Exit.TheVariants.{Done, FileFault, BadImage, BadScript, BadConfig, BadAnswers}
-use Rattle.eid.specs.Commands.{Command, Run, Replay, Make, Kit, Show}
-use Rattle.eid_perso.specs.Reading.{config_of, kit_of_text}
+use Rattle.eid.specs.Commands.{Command, Run, Replay, Session, Make, Kit, Show}
+use Rattle.eid_perso.specs.Reading.{config_of, kit_of_text, plan_of_text}
 use Rattle.eid.specs.Images.{record_of}
 
 -- what is read of an input, or the exit that refuses it: absent, or not of its form
@@ -41,6 +42,10 @@ unfoldable pub kit_in : Option (List ℕ) → Result PlainKit Exit
 kit_in None = Err FileFault
 kit_in (Some text) = or_bad BadConfig (kit_of_text text)
 
+unfoldable pub plan_in : Option (List ℕ) → Result PlainPlan Exit
+plan_in None = Err FileFault
+plan_in (Some text) = or_bad BadConfig (plan_of_text text)
+
 -- the first refusal, or what comes later
 abbrev pub unless_refused : {A : Type 0} → Result A Exit → Exit → Exit
 unless_refused (Err exit) later = exit
@@ -52,6 +57,7 @@ unfoldable pub expected : Command → (List ℕ → Option (List ℕ)) → Exit
 expected (Run image script start) files = unless_refused (image_in (files image)) (unless_refused (script_in (files script)) Done)
 expected (Replay image script answers) files = unless_refused (image_in (files image)) (unless_refused (script_in (files script)) (unless_refused
     (answers_in (files answers)) Done))
+expected (Session image terminal start) files = unless_refused (image_in (files image)) (unless_refused (plan_in (files terminal)) Done)
 expected (Make config image) files = unless_refused (config_in (files config)) Done
 expected (Kit config file) files = unless_refused (kit_in (files config)) Done
 expected (Show image) files = unless_refused (image_in (files image)) Done

@@ -6,6 +6,7 @@ pub mod Loads
 pub mod Make
 pub mod Kit
 pub mod Run
+pub mod Session
 pub mod Ends
 pub mod Show
 pub mod Sinks

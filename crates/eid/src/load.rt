@@ -10,17 +10,19 @@ ghost use Rattle.eid_copro.specs.Lines.{answers_of};
 ghost use Rattle.eid.specs.Images.{record_of};
 ghost use Rattle.eid_perso.specs.Config.{IsWhole, config_view};
 ghost use Rattle.eid_perso.specs.Kit.{kit_view};
-ghost use Rattle.eid_perso.specs.Reading.{config_of, kit_of_text};
-ghost use Rattle.eid.specs.Inputs.{image_in, script_in, answers_in, config_in, kit_in, or_bad};
+ghost use Rattle.eid_perso.specs.Reading.{config_of, kit_of_text, plan_of_text};
+ghost use Rattle.eid.specs.Inputs.{image_in, script_in, answers_in, config_in, kit_in, plan_in, or_bad};
+ghost use Rattle.eid_terminal.specs.Plans.{IsFit, plan_view};
 ghost use Rattle.eid.specs.Loads.{IsRead, IsRefused, IsBad};
 
 use crate::exit::Exit;
 use eid_base::{Folder, IoError, NoMemory};
 use eid_cells::{Eeprom, MemoryEeprom};
 use eid_copro::{Answer, AnswersError, read_answers};
-use eid_perso::{Config, ConfigError, KitPlan, read_config, read_kit};
+use eid_perso::{Config, ConfigError, KitPlan, read_config, read_kit, read_plan};
 use eid_script::{Line, ScriptError, read_script};
 use eid_store::Store;
+use eid_terminal::Plan;
 use std::alloc::Global;
 
 /// How many bytes an image has.
@@ -237,6 +239,37 @@ pub fn load_kit<F: Folder>(alloc: Global, folder: &mut F, name: &str) -> Result<
 {
     match read_whole(alloc, folder, name, CONFIG_LIMIT) {
         Read::Whole(text) => kit_of_text(alloc, text.as_slice()),
+        Read::TooLong => Err(Exit::BadConfig { key: 0 }),
+        Read::NoMemory => Err(Exit::NoMemory),
+        Read::Failed => Err(Exit::FileFault),
+    }
+}
+
+/// The plan of this text.
+fn plan_of_text(alloc: Global, text: &[u8]) -> Result<Plan, Exit>
+    ensures found { IfOk result (λ plan. or_bad Exit.BadConfig (plan_of_text text.now) ≡ Ok (plan_view plan)) }
+    ensures fit { IfOk result (λ plan. IsFit (plan_view plan)) }
+    ensures refused { IfErr result (λ e. (e ≡ Exit.NoMemory) ⊎ IsBad e (or_bad Exit.BadConfig (plan_of_text text.now))) }
+{
+    match read_plan(alloc, text) {
+        Ok(plan) => Ok(plan),
+        Err(ConfigError::Bad { key }) => Err(Exit::BadConfig { key }),
+        Err(ConfigError::NoMemory) => Err(Exit::NoMemory),
+    }
+}
+
+/// Reads the plan of a terminal.
+pub fn load_plan<F: Folder>(alloc: Global, folder: &mut F, name: &str) -> Result<Plan, Exit>
+    ensures said { IfOk result (λ plan. IsTrue (F.seen folder.old).tells → plan_in ((F.seen folder.old).file name.now) ≡ Ok (plan_view plan)) }
+    ensures fit { IfOk result (λ plan. IsFit (plan_view plan)) }
+    ensures refused { IfErr result (λ e. IsRefused (F.seen folder.old).tells (plan_in ((F.seen folder.old).file name.now)) (Rose
+        (F.seen folder.old).faults (F.seen folder.new).faults) e) }
+    ensures same { SameFiles (F.seen folder.old) (F.seen folder.new) }
+    ensures later { (F.seen folder.old).faults ≤ (F.seen folder.new).faults }
+    ensures still { ¬ IsErrOf result Exit.FileFault → (F.seen folder.new).faults ≡ (F.seen folder.old).faults }
+{
+    match read_whole(alloc, folder, name, CONFIG_LIMIT) {
+        Read::Whole(text) => plan_of_text(alloc, text.as_slice()),
         Read::TooLong => Err(Exit::BadConfig { key: 0 }),
         Read::NoMemory => Err(Exit::NoMemory),
         Read::Failed => Err(Exit::FileFault),

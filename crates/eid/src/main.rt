@@ -8,6 +8,7 @@ mod make;
 mod program;
 mod replay;
 mod run;
+mod session;
 mod show;
 #[cfg(test)]
 mod tests;

@@ -9,6 +9,7 @@ use crate::kit::kit;
 use crate::make::make;
 use crate::replay::replay;
 use crate::run::run;
+use crate::session::session;
 use crate::show::show;
 use crate::words::{Words, read_words};
 use eid_base::{Folder, Sink};
@@ -35,6 +36,11 @@ fn carry_out<F: Folder, K: Sink>(
             script,
             answers,
         } => replay(alloc, image, script, answers, folder, out),
+        Words::Session {
+            image,
+            terminal,
+            start,
+        } => session(alloc, image, terminal, start, folder, out),
         Words::Make { config, image } => make(alloc, config, image, folder),
         Words::Kit { config, file } => kit(alloc, config, file, folder),
         Words::Show { image } => show(alloc, image, folder, out),

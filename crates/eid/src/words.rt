@@ -27,6 +27,15 @@ pub enum Words<'a> {
         /// The name of the answers' file.
         answers: &'a str,
     },
+    /// To run a terminal with the chip of an image.
+    Session {
+        /// The name of the image's file.
+        image: &'a str,
+        /// The name of the file with the terminal's plan.
+        terminal: &'a str,
+        /// The start of the chip's model coprocessor.
+        start: u64,
+    },
     /// To write the image of a configuration.
     Make {
         /// The name of the configuration's file.
@@ -97,6 +106,24 @@ fn replay_words(rest: &[String]) -> Option<Words<'_>>
     })
 }
 
+/// What the words behind `session` ask for.
+fn session_words(alloc: Global, rest: &[String]) -> Result<Option<Words<'_>>, NoMemory>
+    ensures found { IfOk result (λ r. IfSome r (λ w. Says (codes "session" ∷ map (λ s. string_bytes s) rest.now) (command w))) }
+    ensures none { IfOk result (λ r. IfNone r ((c : Command) → Says (codes "session" ∷ map (λ s. string_bytes s) rest.now) c → ⊥)) }
+{
+    let [image, terminal, start] = rest else {
+        return Ok(None);
+    };
+    let Some(start) = number(alloc, start.as_str())? else {
+        return Ok(None);
+    };
+    Ok(Some(Words::Session {
+        image: image.as_str(),
+        terminal: terminal.as_str(),
+        start,
+    }))
+}
+
 /// What the words behind `make` ask for.
 fn make_words(rest: &[String]) -> Option<Words<'_>>
     ensures found { IfSome result (λ w. Says (codes "make" ∷ map (λ s. string_bytes s) rest.now) (command w)) }
@@ -149,6 +176,7 @@ pub fn read_words(alloc: Global, words: &[String]) -> Result<Option<Words<'_>>, 
     match first.as_str() {
         "run" => run_words(alloc, rest),
         "replay" => Ok(replay_words(rest)),
+        "session" => session_words(alloc, rest),
         "make" => Ok(make_words(rest)),
         "kit" => Ok(kit_words(rest)),
         "show" => Ok(show_words(rest)),

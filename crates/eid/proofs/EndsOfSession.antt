@@ -1,0 +1,212 @@
+-- What the session of a terminal with a chip ended in, and what it did.
+use Rattle.std.proofs.Common.{◌≡◌, ◌≢◌, ℕ, ◌≤◌, false, IsTrue, List, [], ◌∷◌, ◌++◌, length, Option, Some, Ok, Err, refl, sym, ap, ◌∙◌, subst, inl, inr}
+use Rattle.std.specs.Prelude.{map}
+use Rattle.eid_base.specs.declared.codes.RunError.{RunError}
+use Rattle.eid_base.specs.declared.codes.RunError.TheVariants as run
+use Rattle.eid_base.specs.declared.outside.IoError.{IoError}
+use Rattle.eid_base.specs.declared.outside.IoError.TheVariants as io
+use Rattle.eid_base.specs.Faults.{Rose}
+use Rattle.eid_base.specs.Seen.{FolderSeen, SinkSeen, SameFiles, SameOthers, IsLeftBy}
+use Rattle.eid_cells.specs.Device.{Device}
+use Rattle.eid_copro.specs.declared.ask.Ask.{Ask}
+use Rattle.eid_copro.specs.Model.{model_answer}
+use Rattle.eid_copro.specs.Told.{Source, Told, KeepsTo, AnswersFrom}
+use Rattle.eid_model.specs.Ledger.{kept, pending, MayHold}
+use Rattle.eid_model.specs.Moments.{asked}
+use Rattle.eid_record.specs.Plain.{FullRecord}
+use Rattle.eid_run.specs.Conversations.{Exchange}
+use Rattle.eid_run.specs.Runs.{Did, LineEffect, Planned, has_plan, journal, line_of, lines_of, outside}
+use Rattle.eid_run.specs.Sessions.{DidPartOfSession, DidSession, command_line, session_lines}
+use Rattle.eid_script.specs.Scripts.{ApduLine, CutLine, OffLine, OnLine, ScriptLine}
+use Rattle.eid_terminal.specs.Plans.{PlainPlan}
+use Rattle.eid.specs.declared.exit.Exit.{Exit}
+use Rattle.eid.specs.declared.exit.Exit.TheVariants.{Done, Usage, FileFault, NoMemory, BadImage, BadScript, BadConfig, SinkFault, BadAnswers}
+use Rattle.eid.specs.Commands.{Session}
+use Rattle.eid.specs.Ends.{HasSource, IsEndOfSession, exit_broken, exit_not_stored}
+use Rattle.eid.specs.Inputs.{image_in, plan_in, expected}
+use Rattle.eid.specs.Loads.{IsRefused}
+use Rattle.eid.specs.Run.{resting}
+use Rattle.eid.specs.Session.{Coprocessors, IsMeeting, Meeting, MetWhole, SessionBrokeOff, SessionFinished, SessionNotStored, inverted}
+use Rattle.eid.specs.Works.{Meets}
+use Rattle.eid.proofs.EndsOfRun.{Opened, answers_from}
+use Rattle.eid.proofs.Inputs.{record_long}
+use Rattle.eid.proofs.Refusals.{rose_later, same_twice, others_after, refused, refused_later}
+
+-- the exits of inputs that are refused
+expected_image : (image terminal : List ℕ) (start : ℕ) (files : List ℕ → Option (List ℕ)) (x : Exit) → image_in (files image) ≡ Err x → expected (Session image terminal start) files ≡ x
+unfolding expected
+expected_image image terminal start files x is = rw is refl
+
+expected_plan : (image terminal : List ℕ) (start : ℕ) (files : List ℕ → Option (List ℕ)) (x : Exit) (opening : FullRecord) → image_in (files image) ≡ Ok opening → plan_in (files terminal) ≡ Err x → expected (Session image terminal start) files ≡ x
+unfolding expected
+expected_plan image terminal start files x opening stood is = rw (stood, is) refl
+
+expected_done : (image terminal : List ℕ) (start : ℕ) (files : List ℕ → Option (List ℕ)) (opening : FullRecord) (plan : PlainPlan) → image_in (files image) ≡ Ok opening → plan_in (files terminal) ≡ Ok plan → expected (Session image terminal start) files ≡ Done
+unfolding expected
+expected_done image terminal start files opening plan stood is = rw (stood, is) refl
+
+-- the image was refused
+pub image_refused : (image terminal : List ℕ) (start : ℕ) (old new : FolderSeen) (sink : SinkSeen) (e : Exit) → SameFiles old new → IsRefused old.tells (image_in (old.file image)) (Rose old.faults new.faults) e → Meets (Session image terminal start) old new sink sink e
+image_refused image terminal start old new sink e same refusal = refused (Session image terminal start) old new sink _ e same refusal (λ x is. expected_image image terminal start old.file x is)
+
+-- the plan was refused
+pub plan_refused : (image terminal : List ℕ) (start : ℕ) (old middle new : FolderSeen) (sink : SinkSeen) (opening : FullRecord) (cells : List ℕ) (e : Exit) → Opened image old middle opening cells → SameFiles middle new → IsRefused middle.tells (plan_in (middle.file terminal)) (Rose middle.faults new.faults) e → Meets (Session image terminal start) old new sink sink e
+plan_refused image terminal start old middle new sink opening cells e o second refusal = refused_later (Session image terminal start) old middle new sink _ e o.same o.later second refusal
+    (λ x told is. expected_plan image terminal start old.file x opening (o.stood told) (rw (o.same.files told terminal) at is))
+
+-- what was read of a folder with the same files
+pub plan_back : (old middle : FolderSeen) (name : List ℕ) (plan : PlainPlan) → SameFiles old middle → (IsTrue middle.tells → plan_in (middle.file name) ≡ Ok plan) → IsTrue old.tells → plan_in (old.file name) ≡ Ok plan
+plan_back old middle name plan same read = λ told. rw (same.files told name) at (read (rw same.tells told))
+
+-- ---- no line of a session plans a cut
+
+abbrev PlansNone : List ScriptLine → Type 0
+PlansNone [] = Unit {0}
+PlansNone (OnLine ∷ rest) = PlansNone rest
+PlansNone (OffLine ∷ rest) = PlansNone rest
+PlansNone (ApduLine bytes ∷ rest) = PlansNone rest
+PlansNone (CutLine write tear ∷ rest) = ⊥
+
+session_plans_none : (exchanges : List Exchange) → PlansNone (map command_line exchanges)
+session_plans_none [] = tt
+session_plans_none (e ∷ rest) = session_plans_none rest
+
+front_plans_none : (front rest : List ScriptLine) → PlansNone (front ++ rest) → PlansNone front
+front_plans_none [] rest none = tt
+front_plans_none (OnLine ∷ front) rest none = front_plans_none front rest none
+front_plans_none (OffLine ∷ front) rest none = front_plans_none front rest none
+front_plans_none (ApduLine bytes ∷ front) rest none = front_plans_none front rest none
+front_plans_none (CutLine write tear ∷ front) rest none = absurd none
+
+last_plans_none : (front : List ScriptLine) (line : ScriptLine) → PlansNone (front ++ line ∷ []) → PlansNone (line ∷ [])
+last_plans_none [] line none = none
+last_plans_none (OnLine ∷ front) line none = last_plans_none front line none
+last_plans_none (OffLine ∷ front) line none = last_plans_none front line none
+last_plans_none (ApduLine bytes ∷ front) line none = last_plans_none front line none
+last_plans_none (CutLine write tear ∷ front) line none = absurd none
+
+no_plan : (happened : List LineEffect) → PlansNone (lines_of happened) → has_plan happened ≡ false
+no_plan [] none = refl
+no_plan (Did m ∷ before) none = no_plan before (front_plans_none (lines_of before) (line_of (Did m) ∷ []) none)
+no_plan (Planned write tear ∷ before) none = absurd (last_plans_none (lines_of before) (CutLine write tear) none)
+
+of_session : (happened : List LineEffect) (undone : List ScriptLine) (exchanges : List Exchange) → lines_of happened ++ undone ≡ session_lines exchanges → has_plan happened ≡ false
+of_session happened undone exchanges carried =
+    no_plan happened (front_plans_none (lines_of happened) undone (subst PlansNone (sym carried) (session_plans_none exchanges)))
+
+-- ---- the ends
+
+-- the terminal's coprocessor, which began with an empty log, gave its answers from its source
+asks_from : (source : Source) (told told_now : Told) (log asks : List Ask) → HasSource told source → told_now ≡ told → KeepsTo told_now log → log ≡ asks → AnswersFrom source asks
+asks_from source told told_now log asks has same keeps logged = has asks (rw (same, logged) at keeps)
+
+-- the session went to its end
+pub met_whole : (start : ℕ) (s : Meeting) (copros : Coprocessors) (device : Device) (new_cells : List ℕ) (before now : SinkSeen) → HasSource copros.chip.told (model_answer start) → HasSource copros.terminal.told (model_answer (inverted start)) → copros.chip.log ≡ [] → copros.terminal.log ≡ [] → KeepsTo copros.chip_now.told copros.chip_now.log → KeepsTo copros.terminal_now.told copros.terminal_now.log
+    → DidSession s.plan s.opening (outside resting s.cells copros.chip before) (outside device new_cells copros.chip_now now) copros.terminal copros.terminal_now → now.tells ≡ before.tells → MetWhole start s new_cells before now
+met_whole start s copros device new_cells before now chip_has terminal_has chip_unasked terminal_unasked chip_keeps terminal_keeps did tells =
+    let talk = did.conversed in record {
+      copros = copros;
+      device = device;
+      did = did;
+      chip_told = answers_from (model_answer start) copros.chip.told copros.chip_now.told copros.chip_now.log (journal talk.happened) chip_has talk.ran.told chip_keeps (talk.ran.logged ∙ ap (λ (l : List Ask). l ++ asked (journal talk.happened)) chip_unasked);
+      terminal_told = asks_from (model_answer (inverted start)) copros.terminal.told copros.terminal_now.told copros.terminal_now.log talk.asks terminal_has talk.same_told terminal_keeps (talk.logged ∙ ap (λ (l : List Ask). l ++ talk.asks) terminal_unasked);
+      steady = talk.ran.unplanned refl refl (of_session talk.happened talk.undone _ talk.carried);
+      tells = tells;
+    }
+
+-- the session broke off
+pub broke_off : (image : List ℕ) (start : ℕ) (s : Meeting) (folder : FolderSeen) (copros : Coprocessors) (device : Device) (cells : List ℕ) (before now : SinkSeen) (error : RunError) → HasSource copros.chip.told (model_answer start) → HasSource copros.terminal.told (model_answer (inverted start)) → copros.chip.log ≡ [] → copros.terminal.log ≡ [] → KeepsTo copros.chip_now.told copros.chip_now.log → KeepsTo copros.terminal_now.told copros.terminal_now.log
+    → DidPartOfSession s.plan s.opening (outside resting s.cells copros.chip before) (outside device cells copros.chip_now now) copros.terminal copros.terminal_now → now.tells ≡ before.tells → (error ≡ run.SinkFault → Rose before.faults now.faults) → IsEndOfSession image start s folder folder before now (exit_broken error)
+broke_off image start s folder copros device cells before now error chip_has terminal_has chip_unasked terminal_unasked chip_keeps terminal_keeps did tells rose = at error rose
+  where
+    end : SessionBrokeOff start s folder folder before now
+    end = let talk = did.conversed in record {
+      copros = copros;
+      device = device;
+      cells = cells;
+      did = did;
+      chip_told = answers_from (model_answer start) copros.chip.told copros.chip_now.told copros.chip_now.log (journal talk.happened) chip_has talk.ran.told chip_keeps (talk.ran.logged ∙ ap (λ (l : List Ask). l ++ asked (journal talk.happened)) chip_unasked);
+      terminal_told = asks_from (model_answer (inverted start)) copros.terminal.told copros.terminal_now.told copros.terminal_now.log talk.asks terminal_has talk.same_told terminal_keeps (talk.logged ∙ ap (λ (l : List Ask). l ++ talk.asks) terminal_unasked);
+      tells = tells;
+      files = record { tells = refl; files = λ told name. refl };
+    }
+
+    at : (e : RunError) → (e ≡ run.SinkFault → Rose before.faults now.faults) → IsEndOfSession image start s folder folder before now (exit_broken e)
+    at run.SinkFault rose = (end, rose refl)
+    at run.NoMemory rose = inl end
+
+-- all was done
+pub all_done : (image : List ℕ) (start : ℕ) (s : Meeting) (old new : FolderSeen) (before now : SinkSeen) (new_cells : List ℕ) → MetWhole start s new_cells before now → length new_cells ≡ 65536 → (IsTrue old.tells → new.file image ≡ Some new_cells) → SameOthers image old new → SessionFinished image start s old new before now
+all_done image start s old new before now new_cells met long stored others =
+    let talk = met.did.conversed in record {
+      new_cells = new_cells;
+      met = met;
+      only = talk.ran.only (model_answer start) met.chip_told met.steady;
+      stored = stored;
+      stands = subst (λ (o : Option FullRecord). MayHold (pending s.opening (journal talk.happened)) (kept s.opening (journal talk.happened)) o) (sym (record_long new_cells long)) talk.ran.cells;
+      layout = talk.ran.layout;
+      others = others;
+    }
+
+-- the image was not stored
+pub not_stored : (image : List ℕ) (start : ℕ) (s : Meeting) (old new : FolderSeen) (before now : SinkSeen) (new_cells : List ℕ) (error : IoError) → MetWhole start s new_cells before now → (IsTrue old.tells → IsLeftBy (old.file image) (new.file image) new_cells) → SameOthers image old new → error ≢ io.Absent → (error ≡ io.Fault → Rose old.faults new.faults) → IsEndOfSession image start s old new before now (exit_not_stored error)
+not_stored image start s old new before now new_cells error met left others there rose = at error there rose
+  where
+    end : SessionNotStored image start s old new before now
+    end = record { new_cells = new_cells; met = met; left = left; others = others }
+
+    at : (e : IoError) → e ≢ io.Absent → (e ≡ io.Fault → Rose old.faults new.faults) → IsEndOfSession image start s old new before now (exit_not_stored e)
+    at io.Absent there rose = absurd (there refl)
+    at io.Fault there rose = (end, rose refl)
+    at io.NoMemory there rose = inr end
+
+-- From the folder after the inputs were read to the folder before: nothing changed in between.
+finished_from : (image : List ℕ) (start : ℕ) (s : Meeting) (old middle new : FolderSeen) (before now : SinkSeen) → SameFiles old middle → SessionFinished image start s middle new before now → SessionFinished image start s old new before now
+finished_from image start s old middle new before now same f = record {
+  new_cells = f.new_cells;
+  met = f.met;
+  only = f.only;
+  stored = λ told. f.stored (rw same.tells told);
+  stands = f.stands;
+  layout = f.layout;
+  others = others_after image old middle new same f.others;
+}
+
+broke_off_from : (start : ℕ) (s : Meeting) (old middle new : FolderSeen) (before now : SinkSeen) → SameFiles old middle → SessionBrokeOff start s middle new before now → SessionBrokeOff start s old new before now
+broke_off_from start s old middle new before now same b = record {
+  copros = b.copros;
+  device = b.device;
+  cells = b.cells;
+  did = b.did;
+  chip_told = b.chip_told;
+  terminal_told = b.terminal_told;
+  tells = b.tells;
+  files = same_twice old middle new same b.files;
+}
+
+not_stored_from : (image : List ℕ) (start : ℕ) (s : Meeting) (old middle new : FolderSeen) (before now : SinkSeen) → SameFiles old middle → SessionNotStored image start s middle new before now → SessionNotStored image start s old new before now
+not_stored_from image start s old middle new before now same n = record {
+  new_cells = n.new_cells;
+  met = n.met;
+  left = λ told. rw (same.files told image) at (n.left (rw same.tells told));
+  others = others_after image old middle new same n.others;
+}
+
+-- the command meets what it promises, by how its session ended
+pub session_meets : (image terminal : List ℕ) (start : ℕ) (s : Meeting) (old middle new : FolderSeen) (before now : SinkSeen) (e : Exit) → IsMeeting image terminal old s → SameFiles old middle → old.faults ≤ middle.faults → IsEndOfSession image start s middle new before now e → Meets (Session image terminal start) old new before now e
+session_meets image terminal start s old middle new before now Done given same later end = record {
+  reason = λ told. expected_done image terminal start old.file s.opening s.plan (given.stood told) (given.read told);
+  end = (s, given, finished_from image start s old middle new before now same end);
+}
+session_meets image terminal start s old middle new before now SinkFault given same later end = record { reason = end.1; end = (s, given, broke_off_from start s old middle new before now same end.0) }
+session_meets image terminal start s old middle new before now FileFault given same later end = record {
+  reason = inl (rose_later old.faults middle.faults new.faults later end.1);
+  end = inr (s, given, not_stored_from image start s old middle new before now same end.0);
+}
+session_meets image terminal start s old middle new before now NoMemory given same later (inl b) = record { reason = tt; end = inr (inl (s, given, broke_off_from start s old middle new before now same b)) }
+session_meets image terminal start s old middle new before now NoMemory given same later (inr n) = record { reason = tt; end = inr (inr (s, given, not_stored_from image start s old middle new before now same n)) }
+session_meets image terminal start s old middle new before now Usage given same later end = absurd end
+session_meets image terminal start s old middle new before now BadImage given same later end = absurd end
+session_meets image terminal start s old middle new before now (BadScript line) given same later end = absurd end
+session_meets image terminal start s old middle new before now (BadConfig key) given same later end = absurd end
+session_meets image terminal start s old middle new before now (BadAnswers line) given same later end = absurd end
