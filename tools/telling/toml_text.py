@@ -9,7 +9,13 @@ from dataclasses import dataclass, field
 from typing import Any, Dict, List, Tuple
 
 DEPTH = 80
-WHITE = " \t"
+WHITE = re.compile(r"[ \t]*")
+LINES = re.compile(r"(?:[ \t]|\r?\n)*")
+COMMENT = re.compile(r"#[^\x00-\x08\x0A-\x1F\x7F]*")
+# By the delimiter of a string: a run of it, and a run of characters that stand for themselves.
+DELIMITERS = {'"': re.compile('"*'), "'": re.compile("'*")}
+PLAIN = {'"': re.compile(r'[^"\\\x00-\x08\x0A-\x1F\x7F]+'), "'": re.compile(r"[^'\x00-\x08\x0A-\x1F\x7F]+")}
+NEWLINE = re.compile(r"\r?\n")
 BARE = re.compile(r"[A-Za-z0-9_-]+")
 WORD = re.compile(r"[A-Za-z0-9_+.:-]*")
 ESCAPES = {"b": "\b", "e": "\x1b", "f": "\f", "n": "\n", "r": "\r", "t": "\t", '"': '"', "\\": "\\"}
@@ -75,12 +81,16 @@ class Reader:
     def __init__(self, text: str):
         self.text = text[1:] if text.startswith("\ufeff") else text
         self.at = 0
+        # a place before which the lines are counted, and their number
+        self.counted = (0, 1)
 
     def fail(self, why: str) -> None:
         raise NoTable(self.line(), why)
 
     def line(self) -> int:
-        return self.text.count("\n", 0, self.at) + 1
+        place, number = self.counted
+        self.counted = (self.at, number + self.text.count("\n", place, self.at))
+        return self.counted[1]
 
     def sees(self, front: str) -> bool:
         return self.text.startswith(front, self.at)
@@ -93,27 +103,23 @@ class Reader:
             self.fail(why)
         self.at += len(front)
 
-    def skip_white(self) -> None:
-        while self.peek() and self.peek() in WHITE:
-            self.at += 1
+    def skip(self, pattern: "re.Pattern") -> str:
+        """Goes on behind what the pattern finds here."""
+        found = pattern.match(self.text, self.at)
+        self.at = found.end() if found else self.at
+        return found.group() if found else ""
 
     def at_newline(self) -> bool:
         return self.sees("\n") or self.sees("\r\n")
 
-    def skip_lines(self) -> None:
-        """White space and ends of lines."""
-        while self.peek() and (self.peek() in WHITE or self.at_newline()):
-            self.at += 1
-
     def skip_blank(self) -> None:
         """White space, ends of lines and comments."""
-        self.skip_lines()
+        self.skip(LINES)
         while self.sees("#"):
-            while self.peek() and not self.at_newline():
-                if not is_text(self.peek()):
-                    self.fail("a comment with a control character")
-                self.at += 1
-            self.skip_lines()
+            self.skip(COMMENT)
+            if self.peek() and not self.at_newline():
+                self.fail("a comment with a control character")
+            self.skip(LINES)
 
     # ---- strings and keys
 
@@ -132,35 +138,38 @@ class Reader:
         return self.content(delimiter, False)
 
     def content(self, delimiter: str, multi: bool) -> str:
+        """The content of a string and the delimiter behind it."""
         found = []
         while True:
-            character = self.peek()
-            if character == delimiter:
-                count = self.count(delimiter) if multi else 3
-                if count == 3:
-                    self.at += 3 if multi else 1
+            found.append(self.skip(PLAIN[delimiter]))
+            if self.sees(delimiter):
+                if self.closes(delimiter, multi):
                     return "".join(found)
-                if count > 5:
-                    self.fail("more than five delimiters of a string in a row")
-            elif character == "\\" and delimiter == '"':
+                found.append(delimiter)
+            elif self.sees("\\"):
                 found.append(self.escape(multi))
-                continue
-            elif not (is_text(character) or (multi and self.at_newline())):
-                ends = not character or self.at_newline()
+            elif multi and self.at_newline():
+                found.append(self.skip(NEWLINE))
+            else:
+                ends = not self.peek() or self.at_newline()
                 self.fail("a string without its end" if ends else "a control character in a string")
-            found.append(character)
-            self.at += 1
 
-    def count(self, delimiter: str) -> int:
-        return len(self.text) - self.at - len(self.text[self.at :].lstrip(delimiter))
+    def closes(self, delimiter: str, multi: bool) -> bool:
+        """Goes on behind one delimiter, or behind the three that end a string of several lines, of which up to two more are text."""
+        count = len(DELIMITERS[delimiter].match(self.text, self.at).group())
+        if multi and count > 5:
+            self.fail("more than five delimiters of a string in a row")
+        is_end = not multi or count == 3
+        self.at += 3 if multi and is_end else 1
+        return is_end
 
     def escape(self, multi: bool) -> str:
         """What a backslash stands for with the characters behind it."""
         self.at += 1
         start = self.at
-        self.skip_white()
+        self.skip(WHITE)
         if multi and self.at_newline():
-            self.skip_lines()
+            self.skip(LINES)
             return ""
         self.at = start + 1
         letter = self.text[start : start + 1]
@@ -175,21 +184,17 @@ class Reader:
     def simple_key(self) -> str:
         if self.peek() in ('"', "'"):
             return self.one_line()
-        found = BARE.match(self.text, self.at)
-        if not found:
-            self.fail("no key where one has to stand")
-        self.at = found.end()
-        return found.group()
+        return self.skip(BARE) or self.fail("no key where one has to stand")
 
     def key(self) -> List[str]:
         """A key with its dots, and the white space behind it."""
         parts = [self.simple_key()]
-        self.skip_white()
+        self.skip(WHITE)
         while self.sees("."):
             self.at += 1
-            self.skip_white()
+            self.skip(WHITE)
             parts.append(self.simple_key())
-            self.skip_white()
+            self.skip(WHITE)
         return parts if len(parts) <= DEPTH else self.fail(f"a key of more than {DEPTH} parts")
 
     # ---- values
@@ -237,7 +242,7 @@ class Reader:
     def pair(self, depth: int = DEPTH) -> Tuple[List[str], Any]:
         key = self.key()
         self.take("=", "no `=` behind a key")
-        self.skip_white()
+        self.skip(WHITE)
         return key, self.value(depth)
 
     def scalar(self) -> Any:
@@ -291,7 +296,7 @@ class Reader:
         """The header of a table, which is then open; gives the way to it."""
         double = self.sees("[[")
         self.at += 2 if double else 1
-        self.skip_white()
+        self.skip(WHITE)
         key = self.key()
         self.take("]]" if double else "]", "a header without its end")
         table = self.passed(root, key[:-1])
@@ -310,16 +315,11 @@ class Reader:
                 key, value = self.pair()
                 self.put(self.passed(root, section), key, value)
                 lines.setdefault((section or key)[0], line)
-            self.skip_white()
+            self.skip(WHITE)
             if self.peek() and self.peek() not in "#\n\r":
                 self.fail("something behind a value or a header")
             self.skip_blank()
         return Document(closed(root), lines)
-
-
-def is_text(character: str) -> bool:
-    """A character that may stand in a comment or a string."""
-    return character == "\t" or (character >= " " and character != "\x7f")
 
 
 def is_scalar(number: int) -> bool:

@@ -6,7 +6,7 @@ from typing import List
 
 from telling.certificates import certificate_bytes, certificate_lines, read_certificate
 from telling.images import SIZE, image_lines, read_image
-from telling.lines import tell_moments
+from telling.lines import Told, tell_moments
 from telling.objects import CERTIFICATE, take_apart
 from telling.tables import FILE_KEYS, MARK
 from telling.text import moment_lines
@@ -35,10 +35,23 @@ def bytes_of(line: str) -> bytes:
     return b"".join(bytes.fromhex(word) for word in words if not NO_BYTES.fullmatch(word))
 
 
+def channel_defect(told: Told):
+    """Whether a channel is said to be open is seen in the bytes: what is sent in one differs from the answer, but for the refusals
+    by rule 2 and 3."""
+    moment, words = told.moment, told.tellings[0].words
+    if moment.sent is None or moment.rule in (2, 3):
+        return None
+    is_open = "in the channel of" in words
+    return None if is_open == (moment.sent != moment.answer) else f"{words} But it sent {moment.sent.hex()[:40]}"
+
+
 def trace_defect(text: str):
     """What is wrong with the telling of a trace, where something is."""
     lines: List[str] = []
     for told in tell_moments(read_trace(text)):
+        wrong = channel_defect(told)
+        if wrong:
+            return wrong
         for telling in told.tellings:
             lines.append(telling.line)
             parts = b"".join(part.bytes() for part in telling.parts)

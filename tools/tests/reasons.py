@@ -158,10 +158,11 @@ def keys(whole, changes, keys_of):
 def test_keys_of_configurations():
     whole = "\n".join(line for line in CHIP.splitlines() if line and not line.startswith("#")) + "\n"
     yield from keys(whole, MAKE, make_keys)
-    # 35 bytes of the example and 11 files of 2,048 are 22,563; the twelfth, dg16, goes beyond 24,000.
-    files = "".join(f'dg{number} = "{MOST}"\n' for number in (16, 1, 2, 6, 7, 9, 10, 11, 12, 13, 14, 15))
-    bad = first_bad_key((whole + files).encode(), make_keys)
-    yield "all files together", same((35, "dg16"), (bad.number, bad.name) if bad else None)
+    # 35 bytes of the files up to dg8, and 11 files of 2,048, are 22,563; dg17 and dg18 have 15, behind dg16.
+    files = "".join(f'dg{number} = "{MOST}"\n' for number in (1, 2, 6, 7, 9, 10, 11, 12, 13, 14, 15))
+    for size, expected in ((1422, None), (1423, (37, "dg18")), (1437, (36, "dg17")), (1438, (35, "dg16"))):
+        bad = first_bad_key(f'{whole}{files}dg16 = "{"00" * size}"\n'.encode(), make_keys)
+        yield f"all files together, {size} in dg16", same(expected, (bad.number, bad.name) if bad else None)
     yield "a text that is too long", same(0, first_bad_key(b"#" * 1_048_577, make_keys).number)
     yield "a text that is no UTF-8", same(0, first_bad_key(b"a = '\xff'", make_keys).number)
 
@@ -172,6 +173,34 @@ def test_keys_of_certificates():
 
 def test_keys_of_plans():
     yield from keys(PLAN, PLANS, plan_keys)
+
+
+# ---- what the program's own tests say, which no exit status tells
+
+CALLS = TOP / "crates/eid/src/tests/calls.rt"
+REFUSAL = re.compile(r'^    \("((?:script|answers): [^"]*)", ([58]), "([^"]*)", (\d+)\),$', re.MULTILINE)
+KIT_KEY = re.compile(r'\(\s*"(\w+)",\s*"([^"]*)",\s*"([^"]*)",\s*(true|false),?\s*\)')
+
+
+def test_lines_of_the_programs_tests():
+    found = REFUSAL.findall(CALLS.read_text())
+    yield "there are over 15 of them", None if len(found) > 15 else f"{len(found)}"
+    for shows, status, text, line in found:
+        content = text.encode().decode("unicode_escape").encode()
+        defect = first_defect(content, script_defect if status == "5" else answer_defect)
+        yield shows, same(int(line), defect[0] if defect else None)
+
+
+def test_keys_of_the_programs_tests():
+    """Each key of a certificate with a refused value, and absent."""
+    table = KIT_KEY.findall(CALLS.read_text().split("const KIT_KEYS", 1)[1].split("];", 1)[0])
+    yield "there are 9 of them", same(9, len(table))
+    for number, (name, _, refused, required) in enumerate(table, 1):
+        others = "".join(f"{key} = {value}\n" for key, value, _, _ in table if key != name)
+        wrong = first_bad_key(f"{others}{name} = {refused}\n".encode(), kit_keys)
+        absent = first_bad_key(others.encode(), kit_keys)
+        yield f"{name} = {refused[:20]}", same(number, wrong.number if wrong else None)
+        yield f"without {name}", same(number if required == "true" else None, absent.number if absent else None)
 
 
 # Words, and a piece of the reason why they are none of a command; None where they are.
