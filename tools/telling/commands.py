@@ -8,7 +8,6 @@ from telling.objects import COMPARISON, content_words, take_apart
 from telling.parts import Part, count, objects_in
 from telling.security import security_infos
 
-SIZE_LIMIT = 2200
 CHAINING, SECURE_MESSAGING, PROPRIETARY = 0x10, 0x0C, 0x80
 FRAGMENTED = (0x22, 0x2A, 0xD6)
 

@@ -201,9 +201,6 @@ CERTIFICATE = Place(
     },
     NOT_HERE,
 )
-CERTIFICATE_FILE = Place(
-    {**CERTIFICATE.meanings, 0x7F21: Meaning("card verifiable certificate", inside=CERTIFICATE)}, NOT_HERE
-)
 
 
 def auxiliary_words(value: bytes) -> str:

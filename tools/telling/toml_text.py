@@ -155,7 +155,7 @@ class Reader:
                 self.fail("a string without its end" if ends else "a control character in a string")
 
     def closes(self, delimiter: str, multi: bool) -> bool:
-        """Goes on behind one delimiter, or behind the three that end a string of several lines, of which up to two more are text."""
+        """Goes on behind one delimiter, or behind the three that end a string of several lines; tells whether the string ends."""
         count = len(DELIMITERS[delimiter].match(self.text, self.at).group())
         if multi and count > 5:
             self.fail("more than five delimiters of a string in a row")

@@ -10,6 +10,16 @@ class Skipped(Exception):
     """A test cannot be tried here; the text says why."""
 
 
+def holds(is_so, otherwise):
+    """None where it is so."""
+    return None if is_so else otherwise
+
+
 def same(expected, got):
     """None where both are the same, else both of them."""
-    return None if expected == got else f"expected {expected!r}\n    got      {got!r}"
+    return holds(expected == got, f"expected {expected!r}\n    got      {got!r}")
+
+
+def begins(front, got):
+    """None where the text begins so."""
+    return holds(got.startswith(front), f"expected {front!r}\n    got      {got!r}")

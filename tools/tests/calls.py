@@ -10,7 +10,7 @@ from telling.certificates import certificate_lines
 from telling.images import image_lines
 from telling.lines import tell_moments
 from telling.trace import read_trace
-from tests import TOP, same
+from tests import TOP, holds, same
 
 TELL = str(TOP / "tools/tell")
 TRACE = "examples/full-session/trace.txt"
@@ -42,7 +42,8 @@ def test_calls():
         got, printed, complaint = called(*words)
         name = " ".join(words)
         yield f"{name}, status", same(status, got)
-        yield f"{name}, words", None if piece in (complaint if status else printed) else f"expected {piece!r}\n    got      {complaint or printed[:200]!r}"
+        told = complaint if status else printed
+        yield f"{name}, words", holds(piece in told, f"expected {piece!r}\n    got      {told[:200]!r}")
         if status == 2 and words[0] != "fly":
             yield f"{name}, one line", same(1, complaint.count("\n"))
             yield f"{name}, nothing printed", same("", printed)

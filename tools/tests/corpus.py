@@ -1,5 +1,5 @@
-"""All traces, images and certificates of examples/ and tests/: each can be told, nothing in them is unknown, and what is told of a
-line are the bytes of the line."""
+"""All traces, images and certificates of examples/ and tests/: each can be told, nothing in them is unknown, and the parts of a
+line are its bytes."""
 
 import re
 from typing import List
@@ -11,11 +11,12 @@ from telling.objects import CERTIFICATE, take_apart
 from telling.tables import FILE_KEYS, MARK
 from telling.text import moment_lines
 from telling.trace import read_trace
-from tests import TOP, same
+from tests import TOP, holds, same
 
 FOLDERS = ("examples", "tests")
-# words of a line that are no bytes, or one decimal number
-NO_BYTES = re.compile(r"(?:on|off|apdu|plain|ask|sent|answer|finished|rule|none|nonce|challenge|pair|map|agree|verify|sign|yes|no|fault|-|=)")
+# Words of a line that are no bytes.
+NO_BYTES = {"apdu", "plain", "ask", "sent", "answer", "nonce", "challenge", "pair", "map", "agree", "verify", "sign"}
+NO_BYTES |= {"yes", "no", "none", "fault", "-", "="}
 
 
 def files(pattern):
@@ -32,12 +33,11 @@ def bytes_of(line: str) -> bytes:
     if words[0] in ("on", "off", "finished", "rule"):
         return b""
     words = words[:-1] if words[0] == "plain" else words
-    return b"".join(bytes.fromhex(word) for word in words if not NO_BYTES.fullmatch(word))
+    return b"".join(bytes.fromhex(word) for word in words if word not in NO_BYTES)
 
 
 def channel_defect(told: Told):
-    """Whether a channel is said to be open is seen in the bytes: what is sent in one differs from the answer, but for the refusals
-    by rule 2 and 3."""
+    """Whether a channel is open can be seen: what is sent in one differs from the answer, but for refusals by rule 2 and 3."""
     moment, words = told.moment, told.tellings[0].words
     if moment.sent is None or moment.rule in (2, 3):
         return None
@@ -67,7 +67,7 @@ def trace_defect(text: str):
 
 def test_traces():
     found = files("trace*.txt")
-    yield "there are over 300 of them", None if len(found) > 300 else f"{len(found)}"
+    yield "there are over 300 of them", holds(len(found) > 300, len(found))
     for path in found:
         yield name_of(path), trace_defect(path.read_text())
 
@@ -84,7 +84,7 @@ def shown(cells: bytes) -> str:
 
 def test_images():
     found = [path for path in files("*.bin") if path.stat().st_size == SIZE]
-    yield "there are over 60 of them", None if len(found) > 60 else f"{len(found)}"
+    yield "there are over 60 of them", holds(len(found) > 60, len(found))
     for path in found:
         marked = [line for line in image_lines(path.read_bytes()) if MARK in line]
         yield name_of(path), f"the mark in {marked[0]}" if marked else None
@@ -96,7 +96,7 @@ SHOWN = re.compile(r"^leaves: (\S+) (\S+)\nwords: show \1\nprints: (\S+)$", re.M
 def test_values_of_images():
     """The values of an image are those that `show` prints of it in the cases."""
     found = [(path.parent, *row) for path in files("case.txt") for row in SHOWN.findall(path.read_text())]
-    yield "there are over 50 of them", None if len(found) > 50 else f"{len(found)}"
+    yield "there are over 50 of them", holds(len(found) > 50, len(found))
     for folder, _, image, text in found:
         yield f"{name_of(folder)}, {image}", same((folder / text).read_text(), shown((folder / image).read_bytes()))
 
@@ -115,7 +115,7 @@ def certificates():
 
 def test_certificates():
     found = list(certificates())
-    yield "there are over 40 of them", None if len(found) > 40 else f"{len(found)}"
+    yield "there are over 40 of them", holds(len(found) > 40, len(found))
     for name, data in found:
         marked = [line for line in certificate_lines(data) if MARK in line]
         yield name, f"the mark in {marked[0]}" if marked else None
@@ -129,4 +129,5 @@ def test_certificates_in_hexadecimal():
     yield "digits", same(data, certificate_bytes(digits.encode()))
     yield "lines of digits", same(data, certificate_bytes(spaced.encode()))
     yield "bytes", same(data, certificate_bytes(data))
-    yield "the sector", same(bytes.fromhex("42546e5b27a3efae861a70051b469c9348065e595ddb8e3f764287aacfef454f"), read_certificate(data).sectors[0])
+    sector = "42546e5b27a3efae861a70051b469c9348065e595ddb8e3f764287aacfef454f"
+    yield "the sector", same(sector, read_certificate(data).sectors[0].hex())

@@ -25,7 +25,8 @@ def test_rules_are_those_of_the_guide():
 
 
 def test_statuses_are_those_of_the_guide():
-    found = {int(status, 16) for row in rows("### From a status to its rules") for status in re.findall(r"\b[69][0-9A-F]{3}\b", row[0])}
+    cells = [row[0] for row in rows("### From a status to its rules")]
+    found = {int(status, 16) for cell in cells for status in re.findall(r"\b[69][0-9A-F]{3}\b", cell)}
     yield "statuses", same(sorted(found), sorted(tables.STATUSES))
 
 
@@ -38,11 +39,26 @@ def test_rights_are_those_of_the_definitions():
         yield f"bit {bit}", same(words.lower(), tables.RIGHTS[bit].lower())
 
 
+# The identifiers of the definitions, by the names that BSI TR-03110-3 has for them.
+IDENTIFIERS = {
+    "PaceAes128": "id-PACE-ECDH-GM-AES-CBC-CMAC-128",
+    "PaceAes256": "id-PACE-ECDH-GM-AES-CBC-CMAC-256",
+    "CaAes128": "id-CA-ECDH-AES-CBC-CMAC-128",
+    "CaAes256": "id-CA-ECDH-AES-CBC-CMAC-256",
+    "TaSha256": "id-TA-ECDSA-SHA-256",
+    "RiSha256": "id-RI-ECDH-SHA-256",
+    "AtTemplate": "id-AT",
+    "Birth": "id-DateOfBirth",
+    "Expiry": "id-DateOfExpiry",
+    "Community": "id-CommunityID",
+    "Sector": "id-sector",
+}
+
+
 def test_identifiers_are_those_of_the_definitions():
     text = (TOP / "crates/eid_bits/specs/Identifiers.antt").read_text()
-    found = {name: ".".join(digits.split(" ∷ ")[:-1]) for name, digits in re.findall(r"known_bytes (\w+) = of_bsi \((.*)\)", text)}
-    names = {"PaceAes128": "id-PACE-ECDH-GM-AES-CBC-CMAC-128", "CaAes128": "id-CA-ECDH-AES-CBC-CMAC-128", "TaSha256": "id-TA-ECDSA-SHA-256"}
-    names.update({"RiSha256": "id-RI-ECDH-SHA-256", "AtTemplate": "id-AT", "Birth": "id-DateOfBirth", "Expiry": "id-DateOfExpiry"})
-    names.update({"Community": "id-CommunityID", "Sector": "id-sector"})
-    for known, name in names.items():
-        yield known, same(name, tables.OBJECT_IDENTIFIERS.get(found.get(known)))
+    rows_of_text = re.findall(r"known_bytes (\w+) = of_bsi \((.*)\)", text)
+    yield "all of them", same(sorted(IDENTIFIERS), sorted(known for known, _ in rows_of_text))
+    for known, digits in rows_of_text:
+        arcs = ".".join(digits.split(" \u2237 ")[:-1])
+        yield known, same(IDENTIFIERS.get(known), tables.OBJECT_IDENTIFIERS.get(arcs))

@@ -11,17 +11,22 @@ import tempfile
 from telling.lines import tell_moments
 from telling.page import page
 from telling.trace import read_trace
-from tests import TOP, Skipped, same
+from tests import TOP, Skipped, holds, same
 
 FULL_SESSION = TOP / "examples/full-session/trace.txt"
 BROWSERS = ("chromium", "chromium-browser", "google-chrome", "chrome")
 SECONDS = 60
 WIDTHS = (1280, 400)
-# The page in a frame of each width, because a window has a least width of its own; and then the width of each frame, and of what is
-# in it without its scroll bar.
+# The page in a frame of each width, because a window has a least width of its own; and then the width of each frame, and how much
+# wider what is in it is than what can be seen of it.
 FRAME = '<iframe width="{}" height="900" style="border: 0" srcdoc="{}"></iframe>'
-MEASURE = """<script>onload = () => { document.body.dataset.measured = [...document.querySelectorAll("iframe")].map(frame => {
-  const found = frame.contentDocument.documentElement; return [frame.clientWidth, found.scrollWidth - found.clientWidth] }).join() }</script>"""
+MEASURE = """<script>
+  function measured(frame) {
+    const found = frame.contentDocument.documentElement
+    return [frame.clientWidth, found.scrollWidth - found.clientWidth]
+  }
+  onload = () => { document.body.dataset.measured = [...document.querySelectorAll("iframe")].map(measured).join() }
+</script>"""
 
 
 class Lines(html.parser.HTMLParser):
@@ -60,7 +65,8 @@ def test_lines_on_the_page():
         name = path.parent.name
         yield f"{name}, lines", same(path.read_text().splitlines(), found.lines)
         yield f"{name}, tags", same(([], []), (found.wrong, found.open))
-        yield f"{name}, alone", None if not re.search(r'(?:src|href)="(?!#)|@import|url\(', text) else "it names another file"
+        other = re.search(r'(?:src|href)="(?!#)|@import|url\(', text)
+        yield f"{name}, alone", holds(not other, "it names another file")
 
 
 def test_the_timeline():
@@ -73,7 +79,7 @@ def test_the_timeline():
 
 def test_text_is_escaped():
     text = page("<b>&", [])
-    yield "the title", None if "<b>" not in text and "&lt;b&gt;&amp;" in text else "it is not escaped"
+    yield "the title", holds("<b>" not in text and "&lt;b&gt;&amp;" in text, "it is not escaped")
 
 
 def browser():
@@ -88,9 +94,12 @@ def measured(program, text):
     with tempfile.TemporaryDirectory() as scratch:
         file = os.path.join(scratch, "frames.html")
         with open(file, "w") as frames:
-            frames.write("<!doctype html><body>" + "".join(FRAME.format(width, html.escape(text)) for width in WIDTHS) + MEASURE)
+            frames.write("<!doctype html><body>")
+            frames.writelines(FRAME.format(width, html.escape(text)) for width in WIDTHS)
+            frames.write(MEASURE)
         words = [program, "--headless", "--no-sandbox", "--disable-gpu", "--dump-dom", f"file://{file}"]
-        printed = subprocess.run(words, stdout=subprocess.PIPE, stderr=subprocess.DEVNULL, timeout=SECONDS).stdout.decode()
+        ran = subprocess.run(words, stdout=subprocess.PIPE, stderr=subprocess.DEVNULL, timeout=SECONDS)
+    printed = ran.stdout.decode()
     found = re.search(r'data-measured="([\d,-]*)"', printed)
     return found and list(map(int, found[1].split(",")))
 
@@ -103,4 +112,4 @@ def test_no_sideways_scrolling():
     wide = text.replace("<details>", "<details open>")
     yield f"{WIDTHS} pixels", same([value for width in WIDTHS for value in (width, 0)], measured(program, wide))
     wider = wide.replace("</main>", '<p style="width: 1500px">wider</p></main>')
-    yield "a page that is wider is told", None if all(measured(program, wider)[1::2]) else "it is not"
+    yield "a page that is wider is told", holds(all(measured(program, wider)[1::2]), "it is not")

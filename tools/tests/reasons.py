@@ -11,7 +11,7 @@ import tempfile
 from telling.keys import first_bad_key, kit_keys, make_keys, plan_keys
 from telling.texts import answer_defect, first_defect, script_defect
 from telling.why import expected_reason, reason_of
-from tests import TOP, same
+from tests import TOP, begins, holds, same
 
 CHIP = (TOP / "examples/make-an-image/chip.toml").read_text()
 KIT = (TOP / "examples/two-certificates/terminal.toml").read_text()
@@ -45,7 +45,8 @@ SCRIPTS = (
 # The same of answers.
 ANSWERS = (
     ("", None),
-    (f"nonce {'00' * 16}\n\nchallenge {'Ab' * 8}\npair {'00' * 32} {'04' * 65}\nmap none\nagree none\nverify no\nsign {'00' * 64}\nfault", None),
+    (f"nonce {'00' * 16}\n\nchallenge {'Ab' * 8}\npair {'00' * 32} {'04' * 65}\nmap none\nagree none", None),
+    (f"verify no\nverify yes\nsign {'00' * 64}\nmap {'04' * 65}\nagree {'00' * 32}\nfault", None),
     ("# a comment\n", 1),
     (f"nonce {'00' * 15}\n", 1),
     (f"fault\nnonce {'00' * 17}\n", 2),
@@ -184,7 +185,7 @@ KIT_KEY = re.compile(r'\(\s*"(\w+)",\s*"([^"]*)",\s*"([^"]*)",\s*(true|false),?\
 
 def test_lines_of_the_programs_tests():
     found = REFUSAL.findall(CALLS.read_text())
-    yield "there are over 15 of them", None if len(found) > 15 else f"{len(found)}"
+    yield "there are over 15 of them", holds(len(found) > 15, len(found))
     for shows, status, text, line in found:
         content = text.encode().decode("unicode_escape").encode()
         defect = first_defect(content, script_defect if status == "5" else answer_defect)
@@ -217,7 +218,8 @@ WORDS = (
 def test_words():
     for words, why in WORDS:
         reason = expected_reason(list(words))
-        yield f"{words}", None if reason.status == 1 and reason.text.startswith(why) else f"expected {why!r}\n    got      {reason}"
+        yield f"{words}, status", same(1, reason.status)
+        yield f"{words}", begins(why, reason.text)
 
 
 @contextlib.contextmanager
@@ -245,10 +247,9 @@ def test_files():
             ("replay image.bin bad.txt bad.txt", "bad.txt, line 1: "),
             ("session image.bin bad.txt 0", "bad.txt, key 0, in line 1: "),
         ):
-            got = expected_reason(words.split(" ")).text
-            yield words, None if got.startswith(expected) else f"expected {expected!r}\n    got      {got!r}"
+            yield words, begins(expected, expected_reason(words.split(" ")).text)
         written = reason_of(2, ["make", str(TOP / "examples/make-an-image/chip.toml"), "/no/where"])
-        yield "a file that cannot be written", None if written.startswith("/no/where: expected a file that can be written") else written
+        yield "a file that cannot be written", begins("/no/where: expected a file that can be written", written)
 
 
 # ---- images
@@ -321,4 +322,4 @@ def test_the_corpus():
                 number += 1
                 reason = expected_reason([os.fsdecode(word) for word in cases.words_of(words)])
                 yield f"{folder.name}: {words}", same(status, reason.status if reason else None)
-    yield "there are over 300 of them", None if number > 300 else f"{number}"
+    yield "there are over 300 of them", holds(number > 300, number)
