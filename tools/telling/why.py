@@ -40,9 +40,9 @@ GREATEST_START = 2**64 - 1
 
 @dataclass
 class Reason:
-    """A status with what it means here."""
+    """What a status means here; None is any, where an input cannot be read once more."""
 
-    status: int
+    status: Optional[int]
     text: str
 
 
@@ -123,10 +123,12 @@ INPUTS: Dict[str, Tuple[Input, ...]] = {
 }
 
 
+def is_pipe(name: str) -> bool:
+    return stat.S_ISFIFO(os.stat(name).st_mode)
+
+
 def read_front(name: str, limit: int) -> bytes:
-    """The bytes of a file, and one more than the limit where it is longer. A pipe is not read a second time."""
-    if stat.S_ISFIFO(os.stat(name).st_mode):
-        raise OSError(0, "a pipe, which is not read a second time")
+    """The bytes of a file, and one more than the limit where it is longer."""
     with open(name, "rb") as file:
         return file.read(limit + 1)
 
@@ -138,6 +140,8 @@ def expected_reason(words: List[str]) -> Optional[Reason]:
         return Reason(USAGE, usage)
     for name, kind in zip(words[1:], INPUTS[words[0]]):
         try:
+            if is_pipe(name):
+                return Reason(None, f"{name}: a pipe, which is not read a second time")
             content = read_front(name, kind.limit)
         except (OSError, ValueError) as error:
             found = getattr(error, "strerror", None) or error
@@ -159,7 +163,7 @@ def written_name(words: List[str]) -> str:
 def reason_of(status: int, words: List[str]) -> str:
     """The reason of an ending in one line."""
     expected = expected_reason(words)
-    if expected and expected.status == status:
+    if expected and expected.status in (status, None):
         return expected.text
     if status == FILE_FAULT and not usage_reason(words) and words[0] != "show":
         wanted = "a file that can be written, in a folder that can be written to"

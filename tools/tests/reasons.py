@@ -249,6 +249,8 @@ def test_files():
         ):
             yield words, begins(expected, expected_reason(words.split(" ")).text)
         written = reason_of(2, ["make", str(TOP / "examples/make-an-image/chip.toml"), "/no/where"])
+        os.mkfifo("pipe")
+        yield "a pipe", same("pipe: a pipe, which is not read a second time", reason_of(5, ["run", "image.bin", "pipe", "0"]))
         yield "a file that cannot be written", begins("/no/where: expected a file that can be written", written)
 
 

@@ -169,6 +169,29 @@ def test_a_chain_of_fragments():
     yield "the password", same("reference of the password: the CAN", last.joined[-1].words)
 
 
+# Commands one after the other, each with its plain form, its rule and status, and its title: which file is the current one.
+CURRENT_FILE = (
+    ("00b0000000", "00 b0 0000 - 256", 12, "6986", "READ BINARY, no current file"),
+    ("00a4020c02011c", "00 a4 020c 011c 0", 0, "9000", "SELECT of a file"),
+    ("00b0000000", "00 b0 0000 - 256", 0, "31009000", "READ BINARY, EF.CardAccess"),
+    ("00b0840000", "00 b0 8400 - 256", 20, "6982", "READ BINARY, data group 4"),
+    ("00b0000100", "00 b0 0001 - 256", 0, "009000", "READ BINARY, EF.CardAccess"),
+    ("00a4000c", "00 a4 000c - 0", 0, "9000", "SELECT of the master file"),
+    ("00b0000000", "00 b0 0000 - 256", 12, "6986", "READ BINARY, no current file"),
+    ("00b09c0000", "00 b0 9c00 - 256", 0, "31009000", "READ BINARY, EF.CardAccess"),
+    ("00b0000000", "00 b0 0000 - 256", 0, "31009000", "READ BINARY, EF.CardAccess"),
+    ("00b09e0000", "00 b0 9e00 - 256", 13, "6a82", "READ BINARY, no file of the chip"),
+)
+
+
+def test_the_current_file():
+    text = "on 0\n"
+    for raw, plain, rule, answer, _ in CURRENT_FILE:
+        text += f"apdu {raw}\n plain {plain}\n finished 0\n rule {rule}\n answer {answer}\n sent {answer}\n"
+    titles = [told.title for told in tell_moments(read_trace(text))]
+    yield "titles", same(["Power on", *(row[-1] for row in CURRENT_FILE)], titles)
+
+
 def test_a_command_that_is_lost_and_one_without_power():
     lost = " finished 1\n rule 0\n answer none\n sent none\n"
     text = f"on 0\napdu 00d691000100\n plain 00 d6 9100 00 0\n{lost}apdu 00b0\n plain none\n{lost.replace('1', '0')}"
