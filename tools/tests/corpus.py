@@ -7,7 +7,7 @@ from typing import List
 from telling.certificates import certificate_bytes, certificate_lines, read_certificate
 from telling.images import SIZE, image_lines, read_image
 from telling.lines import Told, tell_moments
-from telling.objects import CERTIFICATE, take_apart
+from telling.objects import CERTIFICATE, NOT_HERE, take_apart
 from telling.tables import FILE_KEYS, MARK
 from telling.text import moment_lines
 from telling.trace import read_trace
@@ -52,6 +52,9 @@ def trace_defect(text: str):
         wrong = channel_defect(told)
         if wrong:
             return wrong
+        strange = [line for line in moment_lines(told) if told.moment.is_carried_out() and NOT_HERE in line]
+        if strange:
+            return f"the command was carried out, and yet {strange[0].strip()[:100]}"
         for telling in told.tellings:
             lines.append(telling.line)
             parts = b"".join(part.bytes() for part in telling.parts)

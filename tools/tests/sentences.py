@@ -154,6 +154,22 @@ def test_refusals():
         yield f"status {status}", same(f"Answer, before it is protected: {status.upper()}, {meaning}.", words["answer"])
 
 
+def test_a_broken_chain():
+    """A command that breaks a chain is refused, and the next one counts by itself."""
+    text = "on 0\n"
+    for raw, plain, rule, status in (
+        ("1022c1a40c800a04007f00070202040202", "10 22 c1a4 800a04007f00070202040202 0", 0, "9000"),
+        ("00b09c0000", "00 b0 9c00 - 256", 7, "6883"),
+        ("0022c1a403830102", "00 22 c1a4 830102 0", 10, "6a80"),
+    ):
+        text += f"apdu {raw}\n plain {plain}\n finished 0\n rule {rule}\n answer {status}\n sent {status}\n"
+    breaking, alone = (told.tellings[1] for told in list(tell_moments(read_trace(text)))[2:])
+    broken = "READ BINARY, which breaks the chain of fragments; at most 256 bytes of answer data expected."
+    yield "the one that breaks it", same(broken, breaking.words)
+    yield "the next one", same("MSE:Set AT for PACE; no answer data expected.", alone.words)
+    yield "no whole request", same(([], []), (breaking.joined, alone.joined))
+
+
 def test_a_chain_of_fragments():
     """Two commands that are one MSE:Set AT; the last one tells the whole body."""
     text = "on 0\n"
