@@ -3,7 +3,7 @@
 import re
 
 from telling import tables
-from tests import TOP, same
+from tests.tell import TOP, same
 
 
 def rows(heading):

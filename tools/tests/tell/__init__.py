@@ -3,7 +3,7 @@ None where it is so, or how it differs."""
 
 import pathlib
 
-TOP = pathlib.Path(__file__).resolve().parent.parent.parent
+TOP = pathlib.Path(__file__).resolve().parents[3]
 
 
 class Skipped(Exception):

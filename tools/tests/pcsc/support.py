@@ -17,7 +17,7 @@ from reader.session import LIMIT
 from reader.terminal import Terminal
 from reader.wire import ASK_ATR, OFF, ON, RESET
 
-TOOLS = pathlib.Path(__file__).resolve().parent.parent
+TOOLS = pathlib.Path(__file__).resolve().parents[2]
 CASES = TOOLS.parent / "tests"
 MEMORY = "/dev/shm" if os.access("/dev/shm", os.W_OK) else None
 SECONDS = 60
