@@ -15,6 +15,7 @@ mod passwords;
 mod records;
 mod scripts;
 mod templates;
+mod terminals;
 mod words;
 
 use std::alloc::{AllocError, Global};
@@ -23,10 +24,8 @@ use words::{Answer, Unanswered};
 
 /// The answer to a question, by its first word.
 fn answer(alloc: Global, line: &str) -> Answer {
-    match line.split_once(' ') {
-        Some((question, rest)) => about_text(alloc, question, rest),
-        None => about_text(alloc, line, ""),
-    }
+    let (question, rest) = words::first(line);
+    about_text(alloc, question, rest)
 }
 
 /// The answer to a question about the whole text behind its first word.
@@ -38,6 +37,7 @@ fn about_text(alloc: Global, question: &str, rest: &str) -> Answer {
         "document-in" => configurations::document_in(alloc, rest),
         "image" => configurations::image(alloc, rest),
         "show" => configurations::show(alloc, rest),
+        "terminal" => terminals::terminal(alloc, rest),
         _ => about_lines(alloc, question, rest),
     }
 }

@@ -49,6 +49,14 @@ pub fn split(alloc: Global, text: &str) -> Result<Vec<&str>, AllocError> {
     text.split(' ').collect(alloc)
 }
 
+/// The first word of a text, and what is behind it; nothing where that is all.
+pub fn first(text: &str) -> (&str, &str) {
+    match text.split_once(' ') {
+        Some(parts) => parts,
+        None => (text, ""),
+    }
+}
+
 /// What stands before a colon, and what behind it.
 pub fn cut(word: &str) -> Result<(&str, &str), Unanswered> {
     word.split_once(':').ok_or(Unanswered::Unclear)
