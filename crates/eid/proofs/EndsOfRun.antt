@@ -12,15 +12,17 @@ use Rattle.eid_record.specs.Plain.{FullRecord}
 use Rattle.eid_store.specs.Stands.{stands}
 use Rattle.eid_copro.specs.Model.{model_answer}
 use Rattle.eid_copro.specs.Script.{script_answer}
-use Rattle.eid_copro.specs.Told.{Source, Told, Start, Listed, KeepsTo, AnswersFrom}
+use Rattle.eid_copro.specs.Told.{Source, Told, Listed, KeepsTo}
 use Rattle.eid_copro.specs.declared.ask.Answer.{Answer}
 use Rattle.eid_copro.specs.declared.ask.Ask.{Ask}
 use Rattle.eid_copro.specs.Seen.{CoproSeen}
 use Rattle.eid_cells.specs.Device.{Device}
-use Rattle.eid_model.specs.Moments.{PlainMoment, asked}
+use Rattle.eid_model.specs.Moments.{asked}
 use Rattle.eid_model.specs.Ledger.{kept, pending, MayHold}
 use Rattle.eid_script.specs.Scripts.{ScriptLine}
-use Rattle.eid_run.specs.Runs.{LineEffect, line_of, lines_of, journal, outside, DidLines, DidSomeLines}
+use Rattle.eid_run.specs.Runs.{LineEffect, line_of, lines_of, journal, outside, resting, DidLines, DidSomeLines}
+use Rattle.eid_run.specs.Talk.{HasSource}
+use Rattle.eid_run.proofs.Meeting.{answers_from}
 use Rattle.eid.specs.declared.exit.Exit.{Exit}
 use Rattle.eid.specs.declared.exit.Exit.TheVariants.{Done, Usage, FileFault, NoMemory, BadImage, BadScript, BadConfig, SinkFault, BadAnswers}
 use Rattle.eid.specs.Commands.{Command, Run, Replay}
@@ -28,8 +30,8 @@ use Rattle.eid.specs.Ends.{exit_broken, exit_not_stored}
 use Rattle.eid.specs.Images.{record_of}
 use Rattle.eid.specs.Inputs.{image_in, script_in, answers_in, unless_refused, expected}
 use Rattle.eid.specs.Loads.{IsRefused}
-use Rattle.eid.specs.Run.{Setup, IsGiven, resting, RanWhole, RunFinished, RunBrokeOff, RunNotStored}
-use Rattle.eid.specs.Ends.{HasSource, IsEndOfRun}
+use Rattle.eid.specs.Run.{Setup, IsGiven, RanWhole, RunFinished, RunBrokeOff, RunNotStored}
+use Rattle.eid.specs.Ends.{IsEndOfRun}
 use Rattle.eid.specs.Works.{Finished, BrokeOff, NotStored, Meets}
 use Rattle.eid.proofs.Inputs.{image_of_cells, record_of_cells, record_long, some_of}
 use Rattle.eid.proofs.Refusals.{rose_later, same_twice, others_after, refused, refused_later}
@@ -103,16 +105,9 @@ pub answers_refused : (image script_name answers_name : List ℕ) (old middle ne
 answers_refused image script_name answers_name old middle new sink opening cells lines e o read third refusal = refused_later (Replay image script_name answers_name) old middle new sink _ e o.same o.later third refusal
     (λ x told is. expected_rest (Replay image script_name answers_name) image script_name old.file _ opening lines (replay_reads image script_name answers_name old.file) (o.stood told) (read told) ∙ ap (λ r. unless_refused r Done) (rw (o.same.files told answers_name) at is))
 
--- the two coprocessors have their answers from their sources
-pub model_source : (start : ℕ) (told : Told) → told ≡ Start start → HasSource told (model_answer start)
-model_source start told is = λ log keeps. rw is at keeps
-
+-- the scripted coprocessor has its answers from its list
 pub script_source : (answers : List Answer) (told : Told) → told ≡ Listed answers → HasSource told (script_answer answers)
 script_source answers told is = λ log keeps. rw is at keeps
-
--- the log of a coprocessor that began with an empty one, and tells what it told then, is of its source
-pub answers_from : (source : Source) (told told_now : Told) (log : List Ask) (moments : List PlainMoment) → HasSource told source → told_now ≡ told → KeepsTo told_now log → log ≡ asked moments → AnswersFrom source (asked moments)
-answers_from source told told_now log moments has same keeps logged = has (asked moments) (rw (same, logged) at keeps)
 
 -- each line made one thing
 lines_long : (happened : List LineEffect) → length (lines_of happened) ≡ length happened

@@ -1,6 +1,5 @@
 -- What the session of a terminal with a chip ended in, and what it did.
-use Rattle.std.proofs.Common.{◌≡◌, ◌≢◌, ℕ, ◌≤◌, false, IsTrue, List, [], ◌∷◌, ◌++◌, length, Option, Some, Ok, Err, refl, sym, ap, ◌∙◌, subst, inl, inr}
-use Rattle.std.specs.Prelude.{map}
+use Rattle.std.proofs.Common.{◌≡◌, ◌≢◌, ℕ, ◌≤◌, IsTrue, List, [], ◌++◌, length, Option, Some, Ok, Err, refl, sym, ap, ◌∙◌, subst, inl, inr}
 use Rattle.eid_base.specs.declared.codes.RunError.{RunError}
 use Rattle.eid_base.specs.declared.codes.RunError.TheVariants as run
 use Rattle.eid_base.specs.declared.outside.IoError.{IoError}
@@ -10,25 +9,25 @@ use Rattle.eid_base.specs.Seen.{FolderSeen, SinkSeen, SameFiles, SameOthers, IsL
 use Rattle.eid_cells.specs.Device.{Device}
 use Rattle.eid_copro.specs.declared.ask.Ask.{Ask}
 use Rattle.eid_copro.specs.Model.{model_answer}
-use Rattle.eid_copro.specs.Told.{Source, Told, KeepsTo, AnswersFrom}
+use Rattle.eid_copro.specs.Told.{KeepsTo}
 use Rattle.eid_model.specs.Ledger.{kept, pending, MayHold}
 use Rattle.eid_model.specs.Moments.{asked}
 use Rattle.eid_record.specs.Plain.{FullRecord}
-use Rattle.eid_run.specs.Conversations.{Exchange}
-use Rattle.eid_run.specs.Runs.{Did, LineEffect, Planned, has_plan, journal, line_of, lines_of, outside}
-use Rattle.eid_run.specs.Sessions.{DidPartOfSession, DidSession, command_line, session_lines}
-use Rattle.eid_script.specs.Scripts.{ApduLine, CutLine, OffLine, OnLine, ScriptLine}
+use Rattle.eid_run.specs.Meetings.{Coprocessors, Meeting, MetWhole, inverted}
+use Rattle.eid_run.specs.Runs.{journal, outside, resting}
+use Rattle.eid_run.specs.Sessions.{DidPartOfSession}
+use Rattle.eid_run.specs.Talk.{HasSource}
+use Rattle.eid_run.proofs.Meeting.{answers_from, asks_from}
 use Rattle.eid_terminal.specs.Plans.{PlainPlan}
 use Rattle.eid.specs.declared.exit.Exit.{Exit}
 use Rattle.eid.specs.declared.exit.Exit.TheVariants.{Done, Usage, FileFault, NoMemory, BadImage, BadScript, BadConfig, SinkFault, BadAnswers}
 use Rattle.eid.specs.Commands.{Session}
-use Rattle.eid.specs.Ends.{HasSource, IsEndOfSession, exit_broken, exit_not_stored}
+use Rattle.eid.specs.Ends.{IsEndOfSession, exit_broken, exit_not_stored}
 use Rattle.eid.specs.Inputs.{image_in, plan_in, expected}
 use Rattle.eid.specs.Loads.{IsRefused}
-use Rattle.eid.specs.Run.{resting}
-use Rattle.eid.specs.Session.{Coprocessors, IsMeeting, Meeting, MetWhole, SessionBrokeOff, SessionFinished, SessionNotStored, inverted}
+use Rattle.eid.specs.Session.{IsMeeting, SessionBrokeOff, SessionFinished, SessionNotStored}
 use Rattle.eid.specs.Works.{Meets}
-use Rattle.eid.proofs.EndsOfRun.{Opened, answers_from}
+use Rattle.eid.proofs.EndsOfRun.{Opened}
 use Rattle.eid.proofs.Inputs.{record_long}
 use Rattle.eid.proofs.Refusals.{rose_later, same_twice, others_after, refused, refused_later}
 
@@ -58,61 +57,7 @@ plan_refused image terminal start old middle new sink opening cells e o second r
 pub plan_back : (old middle : FolderSeen) (name : List ℕ) (plan : PlainPlan) → SameFiles old middle → (IsTrue middle.tells → plan_in (middle.file name) ≡ Ok plan) → IsTrue old.tells → plan_in (old.file name) ≡ Ok plan
 plan_back old middle name plan same read = λ told. rw (same.files told name) at (read (rw same.tells told))
 
--- ---- no line of a session plans a cut
-
-abbrev PlansNone : List ScriptLine → Type 0
-PlansNone [] = Unit {0}
-PlansNone (OnLine ∷ rest) = PlansNone rest
-PlansNone (OffLine ∷ rest) = PlansNone rest
-PlansNone (ApduLine bytes ∷ rest) = PlansNone rest
-PlansNone (CutLine write tear ∷ rest) = ⊥
-
-session_plans_none : (exchanges : List Exchange) → PlansNone (map command_line exchanges)
-session_plans_none [] = tt
-session_plans_none (e ∷ rest) = session_plans_none rest
-
-front_plans_none : (front rest : List ScriptLine) → PlansNone (front ++ rest) → PlansNone front
-front_plans_none [] rest none = tt
-front_plans_none (OnLine ∷ front) rest none = front_plans_none front rest none
-front_plans_none (OffLine ∷ front) rest none = front_plans_none front rest none
-front_plans_none (ApduLine bytes ∷ front) rest none = front_plans_none front rest none
-front_plans_none (CutLine write tear ∷ front) rest none = absurd none
-
-last_plans_none : (front : List ScriptLine) (line : ScriptLine) → PlansNone (front ++ line ∷ []) → PlansNone (line ∷ [])
-last_plans_none [] line none = none
-last_plans_none (OnLine ∷ front) line none = last_plans_none front line none
-last_plans_none (OffLine ∷ front) line none = last_plans_none front line none
-last_plans_none (ApduLine bytes ∷ front) line none = last_plans_none front line none
-last_plans_none (CutLine write tear ∷ front) line none = absurd none
-
-no_plan : (happened : List LineEffect) → PlansNone (lines_of happened) → has_plan happened ≡ false
-no_plan [] none = refl
-no_plan (Did m ∷ before) none = no_plan before (front_plans_none (lines_of before) (line_of (Did m) ∷ []) none)
-no_plan (Planned write tear ∷ before) none = absurd (last_plans_none (lines_of before) (CutLine write tear) none)
-
-of_session : (happened : List LineEffect) (undone : List ScriptLine) (exchanges : List Exchange) → lines_of happened ++ undone ≡ session_lines exchanges → has_plan happened ≡ false
-of_session happened undone exchanges carried =
-    no_plan happened (front_plans_none (lines_of happened) undone (subst PlansNone (sym carried) (session_plans_none exchanges)))
-
 -- ---- the ends
-
--- the terminal's coprocessor, which began with an empty log, gave its answers from its source
-asks_from : (source : Source) (told told_now : Told) (log asks : List Ask) → HasSource told source → told_now ≡ told → KeepsTo told_now log → log ≡ asks → AnswersFrom source asks
-asks_from source told told_now log asks has same keeps logged = has asks (rw (same, logged) at keeps)
-
--- the session went to its end
-pub met_whole : (start : ℕ) (s : Meeting) (copros : Coprocessors) (device : Device) (new_cells : List ℕ) (before now : SinkSeen) → HasSource copros.chip.told (model_answer start) → HasSource copros.terminal.told (model_answer (inverted start)) → copros.chip.log ≡ [] → copros.terminal.log ≡ [] → KeepsTo copros.chip_now.told copros.chip_now.log → KeepsTo copros.terminal_now.told copros.terminal_now.log
-    → DidSession s.plan s.opening (outside resting s.cells copros.chip before) (outside device new_cells copros.chip_now now) copros.terminal copros.terminal_now → now.tells ≡ before.tells → MetWhole start s new_cells before now
-met_whole start s copros device new_cells before now chip_has terminal_has chip_unasked terminal_unasked chip_keeps terminal_keeps did tells =
-    let talk = did.conversed in record {
-      copros = copros;
-      device = device;
-      did = did;
-      chip_told = answers_from (model_answer start) copros.chip.told copros.chip_now.told copros.chip_now.log (journal talk.happened) chip_has talk.ran.told chip_keeps (talk.ran.logged ∙ ap (λ (l : List Ask). l ++ asked (journal talk.happened)) chip_unasked);
-      terminal_told = asks_from (model_answer (inverted start)) copros.terminal.told copros.terminal_now.told copros.terminal_now.log talk.asks terminal_has talk.same_told terminal_keeps (talk.logged ∙ ap (λ (l : List Ask). l ++ talk.asks) terminal_unasked);
-      steady = talk.ran.unplanned refl refl (of_session talk.happened talk.undone _ talk.carried);
-      tells = tells;
-    }
 
 -- the session broke off
 pub broke_off : (image : List ℕ) (start : ℕ) (s : Meeting) (folder : FolderSeen) (copros : Coprocessors) (device : Device) (cells : List ℕ) (before now : SinkSeen) (error : RunError) → HasSource copros.chip.told (model_answer start) → HasSource copros.terminal.told (model_answer (inverted start)) → copros.chip.log ≡ [] → copros.terminal.log ≡ [] → KeepsTo copros.chip_now.told copros.chip_now.log → KeepsTo copros.terminal_now.told copros.terminal_now.log

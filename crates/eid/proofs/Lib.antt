@@ -1,4 +1,5 @@
 pub mod EndsOfMake
+pub mod EndsOfBig
 pub mod EndsOfKit
 pub mod EndsOfRun
 pub mod EndsOfSession

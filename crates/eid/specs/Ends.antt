@@ -4,14 +4,13 @@ use Rattle.std.specs.Prelude.{◌⊎◌, ℕ, List}
 use Rattle.eid_base.specs.Faults.{Rose}
 use Rattle.eid_base.specs.Seen.{FolderSeen, SinkSeen}
 use Rattle.eid_record.specs.Plain.{FullRecord}
-use Rattle.eid_copro.specs.Told.{Source, Told, KeepsTo, AnswersFrom}
-use Rattle.eid_copro.specs.declared.ask.Ask.{Ask}
+use Rattle.eid_copro.specs.Told.{Source}
 use Rattle.eid_script.specs.Scripts.{ScriptLine}
 use Rattle.eid.specs.declared.exit.Exit.{Exit}
 use Rattle.eid.specs.declared.exit.Exit.TheVariants.{Done, Usage, FileFault, NoMemory, BadImage, BadScript, BadConfig, SinkFault, BadAnswers}
-use Rattle.eid_terminal.specs.Plans.{PlainPlan}
 use Rattle.eid.specs.Run.{Setup, RunFinished, RunBrokeOff, RunNotStored}
-use Rattle.eid.specs.Session.{Meeting, SessionFinished, SessionBrokeOff, SessionNotStored}
+use Rattle.eid_run.specs.Meetings.{Meeting}
+use Rattle.eid.specs.Session.{SessionFinished, SessionBrokeOff, SessionNotStored}
 use Rattle.eid_base.specs.declared.codes.RunError.{RunError}
 use Rattle.eid_base.specs.declared.codes.RunError.TheVariants as run
 use Rattle.eid_base.specs.declared.outside.IoError.{IoError}
@@ -19,10 +18,6 @@ use Rattle.eid_base.specs.declared.outside.IoError.TheVariants as io
 
 abbrev pub setup : FullRecord → List ℕ → List ScriptLine → Setup
 setup opening cells lines = record { opening = opening; cells = cells; lines = lines }
-
--- a coprocessor that tells this has its answers from the source
-abbrev pub HasSource : Told → Source → Type 0
-HasSource told source = (log : List Ask) → KeepsTo told log → AnswersFrom source log
 
 -- how a run that had its inputs ended, by the exit
 abbrev pub IsEndOfRun : (image : List ℕ) → Source → Setup → FolderSeen → FolderSeen → SinkSeen → SinkSeen → Exit → Type 0
@@ -35,9 +30,6 @@ IsEndOfRun image source s old new before now BadImage = ⊥
 IsEndOfRun image source s old new before now (BadScript line) = ⊥
 IsEndOfRun image source s old new before now (BadConfig key) = ⊥
 IsEndOfRun image source s old new before now (BadAnswers line) = ⊥
-
-abbrev pub meeting : FullRecord → List ℕ → PlainPlan → Meeting
-meeting opening cells plan = record { opening = opening; cells = cells; plan = plan }
 
 -- how a session that had its inputs ended, by the exit
 abbrev pub IsEndOfSession : (image : List ℕ) → (start : ℕ) → Meeting → FolderSeen → FolderSeen → SinkSeen → SinkSeen → Exit → Type 0

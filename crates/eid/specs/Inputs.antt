@@ -9,7 +9,7 @@ use Rattle.eid_perso.specs.Kit.{PlainKit}
 use Rattle.eid_terminal.specs.Plans.{PlainPlan}
 use Rattle.eid.specs.declared.exit.Exit.{Exit}
 use Rattle.eid.specs.declared.exit.Exit.TheVariants.{Done, FileFault, BadImage, BadScript, BadConfig, BadAnswers}
-use Rattle.eid.specs.Commands.{Command, Run, Replay, Session, Make, Kit, Show}
+use Rattle.eid.specs.Commands.{Command, Run, Replay, Session, Big, Make, Kit, Show}
 use Rattle.eid_perso.specs.Reading.{config_of, kit_of_text, plan_of_text}
 use Rattle.eid.specs.Images.{record_of}
 
@@ -58,6 +58,7 @@ expected (Run image script start) files = unless_refused (image_in (files image)
 expected (Replay image script answers) files = unless_refused (image_in (files image)) (unless_refused (script_in (files script)) (unless_refused
     (answers_in (files answers)) Done))
 expected (Session image terminal start) files = unless_refused (image_in (files image)) (unless_refused (plan_in (files terminal)) Done)
+expected (Big sessions) files = Done
 expected (Make config image) files = unless_refused (config_in (files config)) Done
 expected (Kit config file) files = unless_refused (kit_in (files config)) Done
 expected (Show image) files = unless_refused (image_in (files image)) Done

@@ -1,3 +1,4 @@
+pub mod Big
 pub mod Commands
 pub mod Exits
 pub mod Images

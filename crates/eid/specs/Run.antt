@@ -1,5 +1,5 @@
 -- What the run of a script does. This project's own.
-use Rattle.std.specs.Prelude.{◌≡◌, ℕ, true, false, IsTrue, List, [], Some, Ok, slice_index}
+use Rattle.std.specs.Prelude.{◌≡◌, ℕ, false, IsTrue, List, [], Some, Ok, slice_index}
 use Rattle.eid_base.specs.Seen.{FolderSeen, SinkSeen, SameFiles, SameOthers, IsLeftBy}
 use Rattle.eid_record.specs.Plain.{FullRecord}
 use Rattle.eid_copro.specs.Model.{model_answer}
@@ -12,7 +12,7 @@ use Rattle.eid_model.specs.Moments.{asked, AreSteady}
 use Rattle.eid_model.specs.Legal.{IsOnlyJournal}
 use Rattle.eid_model.specs.Ledger.{kept, pending, MayHold}
 use Rattle.eid_script.specs.Scripts.{ScriptLine}
-use Rattle.eid_run.specs.Runs.{journal, has_plan, outside, CutsAsPlanned, DidLines, DidSomeLines}
+use Rattle.eid_run.specs.Runs.{journal, has_plan, outside, resting, CutsAsPlanned, DidLines, DidSomeLines}
 use Rattle.eid.specs.Images.{record_of}
 use Rattle.eid.specs.Inputs.{image_in, script_in, answers_in}
 
@@ -29,11 +29,7 @@ pub record IsGiven (image script_name : List ℕ) (old : FolderSeen) (s : Setup)
   pub held : IsTrue old.tells → old.file image ≡ Some s.cells
   pub read : IsTrue old.tells → script_in (old.file script_name) ≡ Ok s.lines
 
--- the device that a run begins with: it has no power, and no cut is planned
-abbrev pub resting : Device
-resting = record { has_power = false; told = true; planned = 0; cuts = 0 }
-
--- The script ran to its end over such a device with the image's cells, and the answers that the coprocessor gave, which
+-- The script ran to its end over a device at rest with the image's cells, and the answers that the coprocessor gave, which
 -- had been asked nothing, are those of the source. Cuts of the power come as the `cut` lines plan them.
 pub record RanWhole (source : Source) (s : Setup) (new_cells : List ℕ) (before now : SinkSeen) : Type 0 where
   pub copro : CoproSeen

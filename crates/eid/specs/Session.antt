@@ -1,26 +1,17 @@
 -- What the session of a terminal with the chip of an image does. This project's own.
-use Rattle.std.specs.Prelude.{◌≡◌, ℕ, ◌-◌, ◌^◌, IsTrue, List, [], Some, Ok, slice_index}
+use Rattle.std.specs.Prelude.{◌≡◌, ℕ, IsTrue, List, Some, Ok, slice_index}
 use Rattle.eid_base.specs.Seen.{FolderSeen, SinkSeen, SameFiles, SameOthers, IsLeftBy}
 use Rattle.eid_cells.specs.Device.{Device}
 use Rattle.eid_copro.specs.Model.{model_answer}
-use Rattle.eid_copro.specs.Seen.{CoproSeen}
 use Rattle.eid_copro.specs.Told.{AnswersFrom}
 use Rattle.eid_model.specs.Ledger.{kept, pending, MayHold}
 use Rattle.eid_model.specs.Legal.{IsOnlyJournal}
-use Rattle.eid_model.specs.Moments.{asked, AreSteady}
-use Rattle.eid_record.specs.Plain.{FullRecord}
-use Rattle.eid_run.specs.Runs.{journal, outside}
-use Rattle.eid_run.specs.Sessions.{DidPartOfSession, DidSession}
-use Rattle.eid_terminal.specs.Plans.{PlainPlan}
+use Rattle.eid_model.specs.Moments.{asked}
+use Rattle.eid_run.specs.Meetings.{Coprocessors, Meeting, MetWhole, inverted}
+use Rattle.eid_run.specs.Runs.{journal, outside, resting}
+use Rattle.eid_run.specs.Sessions.{DidPartOfSession}
 use Rattle.eid.specs.Images.{record_of}
 use Rattle.eid.specs.Inputs.{image_in, plan_in}
-use Rattle.eid.specs.Run.{resting}
-
--- What a session begins with: the opening record, the cells that stand for it, and the plan of the terminal.
-pub record Meeting : Type 0 where
-  pub opening : FullRecord
-  pub cells : List ℕ
-  pub plan : PlainPlan
 
 -- the files give it
 pub record IsMeeting (image terminal_name : List ℕ) (old : FolderSeen) (s : Meeting) : Type 0 where
@@ -28,29 +19,6 @@ pub record IsMeeting (image terminal_name : List ℕ) (old : FolderSeen) (s : Me
   pub stood : IsTrue old.tells → image_in (old.file image) ≡ Ok s.opening
   pub held : IsTrue old.tells → old.file image ≡ Some s.cells
   pub read : IsTrue old.tells → plan_in (old.file terminal_name) ≡ Ok s.plan
-
--- the terminal's coprocessor starts with all 64 bits of the chip's start inverted
-abbrev pub inverted : ℕ → ℕ
-inverted start = (2 ^ 64 - 1) - start
-
--- The coprocessors of a session, before it and after it.
-pub record Coprocessors : Type 0 where
-  pub chip : CoproSeen
-  pub chip_now : CoproSeen
-  pub terminal : CoproSeen
-  pub terminal_now : CoproSeen
-
--- The session went to its end over a device at rest with the image's cells. The model coprocessors, which had been asked
--- nothing, gave both their answers, and the power was not cut.
-pub record MetWhole (start : ℕ) (s : Meeting) (new_cells : List ℕ) (before now : SinkSeen) : Type 0 where
-  pub copros : Coprocessors
-  pub device : Device
-  pub did : DidSession s.plan s.opening (outside resting s.cells copros.chip before) (outside device new_cells copros.chip_now now)
-      copros.terminal copros.terminal_now
-  pub chip_told : AnswersFrom (model_answer start) (asked (journal did.conversed.happened))
-  pub terminal_told : AnswersFrom (model_answer (inverted start)) did.conversed.asks
-  pub steady : AreSteady (journal did.conversed.happened)
-  pub tells : now.tells ≡ before.tells
 
 -- All of it done: the image then has cells that stand for the record kept, of the same layout, and no other name changed.
 -- No other journal without a cut is legal for this record, these commands, and the model's answers.

@@ -4,7 +4,8 @@ use Rattle.eid_base.specs.Faults.{Rose}
 use Rattle.eid_base.specs.Seen.{FolderSeen, SinkSeen, SameFiles}
 use Rattle.eid.specs.declared.exit.Exit.{Exit}
 use Rattle.eid.specs.declared.exit.Exit.TheVariants.{Done, Usage, FileFault, NoMemory, BadImage, BadScript, BadConfig, SinkFault, BadAnswers}
-use Rattle.eid.specs.Commands.{Command, Run, Replay, Session, Make, Kit, Show}
+use Rattle.eid.specs.Big.{BigBrokeOff, BigFinished}
+use Rattle.eid.specs.Commands.{Command, Run, Replay, Session, Big, Make, Kit, Show}
 use Rattle.eid.specs.Inputs.{expected}
 use Rattle.eid.specs.Kit.{KitFinished, KitNotStored}
 use Rattle.eid.specs.Make.{MakeFinished, MakeNotStored}
@@ -41,6 +42,7 @@ abbrev pub Finished : Command → FolderSeen → FolderSeen → SinkSeen → Sin
 Finished (Run image script start) old new before now = OfRun image script start old (λ source s. RunFinished image source s old new before now)
 Finished (Replay image script answers) old new before now = OfReplay image script answers old (λ source s. RunFinished image source s old new before now)
 Finished (Session image terminal start) old new before now = OfSession image terminal old (λ s. SessionFinished image start s old new before now)
+Finished (Big sessions) old new before now = BigFinished sessions old new before now
 Finished (Make config image) old new before now = MakeFinished config image old new before now
 Finished (Kit config file) old new before now = KitFinished config file old new before now
 Finished (Show image) old new before now = ShowFinished image old new before now
@@ -50,6 +52,7 @@ abbrev pub BrokeOff : Command → FolderSeen → FolderSeen → SinkSeen → Sin
 BrokeOff (Run image script start) old new before now = OfRun image script start old (λ source s. RunBrokeOff source s old new before now)
 BrokeOff (Replay image script answers) old new before now = OfReplay image script answers old (λ source s. RunBrokeOff source s old new before now)
 BrokeOff (Session image terminal start) old new before now = OfSession image terminal old (λ s. SessionBrokeOff start s old new before now)
+BrokeOff (Big sessions) old new before now = BigBrokeOff sessions old new before now
 BrokeOff (Make config image) old new before now = ⊥
 BrokeOff (Kit config file) old new before now = ⊥
 BrokeOff (Show image) old new before now = ShowBrokeOff image old new before now
@@ -59,6 +62,7 @@ abbrev pub NotStored : Command → FolderSeen → FolderSeen → SinkSeen → Si
 NotStored (Run image script start) old new before now = OfRun image script start old (λ source s. RunNotStored image source s old new before now)
 NotStored (Replay image script answers) old new before now = OfReplay image script answers old (λ source s. RunNotStored image source s old new before now)
 NotStored (Session image terminal start) old new before now = OfSession image terminal old (λ s. SessionNotStored image start s old new before now)
+NotStored (Big sessions) old new before now = ⊥
 NotStored (Make config image) old new before now = MakeNotStored config image old new before now
 NotStored (Kit config file) old new before now = KitNotStored config file old new before now
 NotStored (Show image) old new before now = ⊥

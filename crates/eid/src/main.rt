@@ -1,6 +1,7 @@
 //! The simulator: reads the words of its command line, and ends with the status of what came of them.
 #![tactic(auto)]
 
+mod big;
 mod exit;
 mod kit;
 mod load;

@@ -1,9 +1,10 @@
 //! The one public call.
 ghost use Rattle.std.specs.Prelude.{◌≡◌, map, string_bytes};
-ghost use Rattle.eid.specs.Commands.{Command, Says};
+ghost use Rattle.eid.specs.Commands.{Command, HasNumbers, Says};
 ghost use Rattle.eid.specs.Words.{command};
 ghost use Rattle.eid.specs.Works.{Meets, NamesFaults, IsIdle};
 
+use crate::big::big;
 use crate::exit::Exit;
 use crate::kit::kit;
 use crate::make::make;
@@ -22,6 +23,7 @@ fn carry_out<F: Folder, K: Sink>(
     folder: &mut F,
     out: &mut K,
 ) -> Exit
+    requires { HasNumbers (command words) }
     ensures meets { Meets (command words.entry) (F.seen folder.old) (F.seen folder.new) (K.seen out.old) (K.seen out.new) result }
     ensures faults { NamesFaults (F.seen folder.old) (F.seen folder.new) (K.seen out.old) (K.seen out.new) result }
 {
@@ -41,6 +43,7 @@ fn carry_out<F: Folder, K: Sink>(
             terminal,
             start,
         } => session(alloc, image, terminal, start, folder, out),
+        Words::Big { sessions } => big(alloc, sessions, out),
         Words::Make { config, image } => make(alloc, config, image, folder),
         Words::Kit { config, file } => kit(alloc, config, file, folder),
         Words::Show { image } => show(alloc, image, folder, out),

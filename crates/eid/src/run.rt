@@ -5,7 +5,8 @@ ghost use Rattle.eid_store.specs.Stands.{stands};
 ghost use Rattle.eid_copro.specs.Told.{Source};
 ghost use Rattle.eid_script.specs.Scripts.{plain_line};
 ghost use Rattle.eid.specs.Commands.{Run};
-ghost use Rattle.eid.specs.Ends.{HasSource, IsEndOfRun, setup};
+ghost use Rattle.eid_run.specs.Talk.{HasSource};
+ghost use Rattle.eid.specs.Ends.{IsEndOfRun, setup};
 ghost use Rattle.eid.specs.Works.{Meets, NamesFaults};
 
 use crate::exit::Exit;

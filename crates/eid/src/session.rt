@@ -5,8 +5,9 @@ ghost use Rattle.eid_record.specs.Plain.{FullRecord};
 ghost use Rattle.eid_store.specs.Stands.{stands};
 ghost use Rattle.eid_terminal.specs.Plans.{IsFit, plan_view};
 ghost use Rattle.eid.specs.Commands.{Session};
-ghost use Rattle.eid.specs.Ends.{HasSource, IsEndOfSession, meeting};
-ghost use Rattle.eid.specs.Session.{inverted};
+ghost use Rattle.eid_run.specs.Meetings.{inverted, meeting};
+ghost use Rattle.eid_run.specs.Talk.{HasSource};
+ghost use Rattle.eid.specs.Ends.{IsEndOfSession};
 ghost use Rattle.eid.specs.Works.{Meets, NamesFaults};
 
 use crate::exit::Exit;

@@ -1,10 +1,13 @@
 //! The words of the command line.
-ghost use Rattle.std.specs.Prelude.{◌≡◌, ◌<◌, ◌^◌, ◌↔◌, ◌∷◌, ℕ, codes, decimal, map, string_bytes, IsTrue, IfOk, IfSome, IfNone};
+ghost use Rattle.std.specs.Prelude.{◌≡◌, ◌<◌, ◌≤◌, ◌^◌, ◌↔◌, ◌∷◌, ℕ, codes, decimal, map, string_bytes, IsTrue, IfOk, IfSome, IfNone};
 ghost use Rattle.eid.specs.Commands.{Command, Says};
 ghost use Rattle.eid.specs.Words.{command};
 
 use eid_base::NoMemory;
 use std::alloc::Global;
+
+/// The most sessions that can be asked for.
+const MOST_SESSIONS: u64 = 1_000;
 
 /// What the words ask for.
 #[derive(Clone, Copy)]
@@ -35,6 +38,11 @@ pub enum Words<'a> {
         terminal: &'a str,
         /// The start of the chip's model coprocessor.
         start: u64,
+    },
+    /// To run generated sessions.
+    Big {
+        /// How many.
+        sessions: u32,
     },
     /// To write the image of a configuration.
     Make {
@@ -124,6 +132,34 @@ fn session_words(alloc: Global, rest: &[String]) -> Result<Option<Words<'_>>, No
     }))
 }
 
+/// The number of sessions that a text says in decimal.
+fn sessions_in(alloc: Global, text: &str) -> Result<Option<u32>, NoMemory>
+    ensures found { IfOk result (λ r. IfSome r (λ n. (1 ≤ n) × (n ≤ 1000) × (text.now ≡ decimal n))) }
+    ensures none { IfOk result (λ r. IfNone r ((n : ℕ) → 1 ≤ n → n ≤ 1000 → text.now ≡ decimal n → ⊥)) }
+{
+    let Some(count) = number(alloc, text)? else {
+        return Ok(None);
+    };
+    if count < 1 || count > MOST_SESSIONS {
+        return Ok(None);
+    }
+    Ok(Some(count as u32))
+}
+
+/// What the words behind `big` ask for.
+fn big_words(alloc: Global, rest: &[String]) -> Result<Option<Words<'_>>, NoMemory>
+    ensures found { IfOk result (λ r. IfSome r (λ w. Says (codes "big" ∷ map (λ s. string_bytes s) rest.now) (command w))) }
+    ensures none { IfOk result (λ r. IfNone r ((c : Command) → Says (codes "big" ∷ map (λ s. string_bytes s) rest.now) c → ⊥)) }
+{
+    let [sessions] = rest else {
+        return Ok(None);
+    };
+    let Some(sessions) = sessions_in(alloc, sessions.as_str())? else {
+        return Ok(None);
+    };
+    Ok(Some(Words::Big { sessions }))
+}
+
 /// What the words behind `make` ask for.
 fn make_words(rest: &[String]) -> Option<Words<'_>>
     ensures found { IfSome result (λ w. Says (codes "make" ∷ map (λ s. string_bytes s) rest.now) (command w)) }
@@ -177,6 +213,7 @@ pub fn read_words(alloc: Global, words: &[String]) -> Result<Option<Words<'_>>, 
         "run" => run_words(alloc, rest),
         "replay" => Ok(replay_words(rest)),
         "session" => session_words(alloc, rest),
+        "big" => big_words(alloc, rest),
         "make" => Ok(make_words(rest)),
         "kit" => Ok(kit_words(rest)),
         "show" => Ok(show_words(rest)),

@@ -1,3 +1,5 @@
 pub mod Running
 pub mod Conversing
 pub mod Talking
+pub mod Meeting
+pub mod Counting

@@ -1,7 +1,9 @@
 -- A session with one turn more.
-use Rattle.std.proofs.Common.{◌≡◌, ℕ, suc, Bool, true, false, IsTrue, List, [], ◌∷◌, ◌++◌, length, map, Option, Some, None, refl, sym, ap, ◌∙◌, subst, inl, inr, ◌≤◌, append_assoc, append-nil, length-append, arith}
-use Rattle.std.specs.Prelude.{is_some, option_map, slice_index, if◌then◌else◌}
+use Rattle.std.proofs.Common.{◌≡◌, ℕ, ◌+◌, suc, Bool, true, false, IsTrue, List, [], ◌∷◌, ◌++◌, length, map, Option, Some, None, refl, sym, ap, ◌∙◌, subst, inl, inr, ◌≤◌, append_assoc, append-nil, length-append, arith}
+use Rattle.std.specs.Prelude.{◌==◌, is_some, option_map, slice_index, if◌then◌else◌}
 use Rattle.std.specs.Option.{option_to_list}
+use Rattle.std.specs.List.{count_by}
+use Rattle.std.proofs.lemmas.List.Sums.{fold-append}
 use Rattle.std.proofs.lemmas.Grind.{flat_map-append}
 use Rattle.std.proofs.lemmas.List.{length-map, map-append}
 use Rattle.eid_base.specs.Seen.{Grew, GrewByPart, SinkSeen}
@@ -23,6 +25,7 @@ use Rattle.eid_terminal.specs.Courses.{Course, Asks, Sends, Passes, Gives, Stops
 use Rattle.eid_terminal.specs.Moves.{Move, move_of}
 use Rattle.eid_terminal.specs.Moves as moves
 use Rattle.eid_terminal.specs.Plans.{IsFit, PlainPlan}
+use Rattle.eid_terminal.specs.Replies.{success}
 use Rattle.eid_terminal.specs.Terminals.{Goes, TerminalView, begun, course, left_at, move_seen}
 use Rattle.eid_terminal.proofs.Within.{at_most}
 use Rattle.eid_run.specs.Conversations.{Exchange, IsEnd, Talks, Told, Passed, Result, command_of, reply_of}
@@ -30,7 +33,10 @@ use Rattle.eid_run.specs.Lines.{DidLine, IsLine, IsRunSoFar, Keeps}
 use Rattle.eid_run.specs.Report.{report, stop_line, told_line, told_lines}
 use Rattle.eid_run.specs.Runs.{Did, LineEffect, Outside, journal, line_for}
 use Rattle.eid_run.specs.Sessions.{Conversed, DidPartOfSession, DidSession, command_line, replied, replies_in, replies_to, session_lines}
-use Rattle.eid_run.specs.Talk.{BrokeTurn, ChipDid, DidTurn, IsLeftAlone, IsTalkSoFar, NoTurn, PartOfTurn, Standing, turn_line, turns, standing, untold, written_so_far}
+use Rattle.eid_run.specs.Tallies.{CountedSession, IsTallyOf, is_answered, is_refused, no_results, tally_more, tally_reply}
+use Rattle.eid_run.specs.declared.tally.Tally.{Tally}
+use Rattle.eid_run.specs.Talk.{BrokeTurn, ChipDid, DidTurn, IsLeftAlone, IsTalkSoFar, NoTurn, PartOfTurn, Standing, turn_line, turns, standing, written_so_far}
+use Rattle.eid_run.specs.Sinks.{untold}
 use Rattle.eid_run.proofs.Conversing.{here, reached_of, talks_on, talks_turn}
 use Rattle.eid_run.proofs.Running.{ran_happened, ran_lines, ran_more}
 
@@ -96,6 +102,33 @@ run_one opening start old new log_0 log log_now exchanges e m run replies made k
     ap (λ (h : List LineEffect). replies_in (journal h)) happened ∙ ap (λ (l : List (List ℕ)). l ++ replies_to m.input (replied m)) replies ∙ ap (λ (l : List (List ℕ)). map reply_of exchanges ++ l) last ∙ sym (map-append reply_of exchanges (e ∷ [])) in
     subst (λ (ls : List ScriptLine). (run_now : IsRunSoFar opening start new log_0 log_now ls untold untold) × (replies_in (journal run_now.happened) ≡ map reply_of (exchanges ++ e ∷ []))) (sym (lines_more exchanges e)) (now, all)
 
+-- ---- the tally
+
+-- one more, by what was told
+abbrev tally_told : Tally → Told → Tally
+tally_told tally (Passed step) = tally
+tally_told tally (Result request reply) = tally_reply tally reply
+
+same_count : (count more : ℕ) (told : List Told) (test : Told → Bool) (t : Told) → count ≡ count_by test told → more ≡ count + (if test t then 1 else 0) → more ≡ count_by test (told ++ t ∷ [])
+same_count count more told test t is so =
+    so ∙ ap (λ (n : ℕ). n + (if test t then 1 else 0)) is ∙ sym (fold-append (λ (n : ℕ) (x : Told). n + (if test x then 1 else 0)) 0 told (t ∷ []))
+
+tally_on : (told : List Told) (t : Told) (tally : Tally) → IsTallyOf told tally → IsTallyOf (told ++ t ∷ []) (tally_told tally t)
+tally_on told (Passed step) tally is = record {
+  answered = same_count tally.answered tally.answered told is_answered (Passed step) is.answered (omega arith);
+  refused = same_count tally.refused tally.refused told is_refused (Passed step) is.refused (omega arith);
+}
+tally_on told (Result request reply) tally is = by (reply.status == success) refl where
+  by : (good : Bool) → (reply.status == success) ≡ good → IsTallyOf (told ++ Result request reply ∷ []) (tally_reply tally reply)
+  by true good = record {
+    answered = same_count tally.answered _ told is_answered (Result request reply) is.answered (rw good (omega arith));
+    refused = same_count tally.refused _ told is_refused (Result request reply) is.refused (rw good (omega arith));
+  }
+  by false bad = record {
+    answered = same_count tally.answered _ told is_answered (Result request reply) is.answered (rw bad (omega arith));
+    refused = same_count tally.refused _ told is_refused (Result request reply) is.refused (rw bad (omega arith));
+  }
+
 -- ---- one turn more
 
 -- what is written behind what was
@@ -131,6 +164,12 @@ talk_more plan opening start first old new taken so alive tells did = by did.goe
   all : Turned plan asks exchanges so.told first.copro.log new.copro.log did.goes.at
   all = turned plan opening start first old new taken so did.asked did.action did.room did.goes
 
+  count_at : (at : Course) → move_seen did.action ≡ move_of at → new.tally ≡ tally_more old.tally (move_of at)
+  count_at at is = did.counted ∙ ap (tally_more old.tally) is
+
+  tally_as : new.tally ≡ old.tally → IsTallyOf so.told new.tally
+  tally_as count = subst (λ (y : Tally). IsTallyOf so.told y) (sym count) so.tallied
+
   taken_is : taken ≡ turns so.exchanges so.pending so.told
   taken_is = so.counted alive
 
@@ -141,9 +180,9 @@ talk_more plan opening start first old new taken so alive tells did = by did.goe
       grew_more first.sink.written old.sink.written new.sink.written (told_lines plan so.told) line more earlier (did.written (tells ∙ telling) ∙ ap (λ (l : List ℕ). old.sink.written ++ l) is) so_is
 
   quiet : (told : List Told) (terminal : TerminalView) → new.terminal ≡ terminal → Talks (course plan) asks exchanges told terminal.course → terminal.waits ≡ false → IsLeftAlone old.scene new.scene old.log new.log × (new.due ≡ None)
-      → (IsTrue first.sink.tells → Grew first.sink.written new.sink.written (written_so_far plan told terminal)) → (terminal.ended ≡ false → suc taken ≡ turns exchanges None told)
+      → IsTallyOf told new.tally → (IsTrue first.sink.tells → Grew first.sink.written new.sink.written (written_so_far plan told terminal)) → (terminal.ended ≡ false → suc taken ≡ turns exchanges None told)
       → (terminal.ended ≡ true → IsEnd terminal.course) → IsTalkSoFar plan opening start first new (suc taken)
-  quiet told terminal left talks waits alone written counted over =
+  quiet told terminal left talks waits alone tallied written counted over =
       let ran = run_alone opening start old.scene new.scene first.log old.log new.log exchanges so.run so.replies alone.0 in
       record {
         asks = asks;
@@ -159,22 +198,23 @@ talk_more plan opening start first old new taken so alive tells did = by did.goe
         replies = ran.1;
         written = λ telling. subst (λ (t : TerminalView). Grew first.sink.written new.sink.written (written_so_far plan told t)) (sym left) (written telling);
         counted = λ e. counted (sym (ap (λ (t : TerminalView). t.ended) left) ∙ e);
+        tallied = tallied;
         over = λ e. (subst (λ (t : TerminalView). IsEnd t.course) (sym left) (over (sym (ap (λ (t : TerminalView). t.ended) left) ∙ e)), refl);
       }
 
   told_one : (t : Told) (at later : Course) → new.terminal ≡ left_at at → left_at at ≡ record { course = later; waits = false; ended = false } → Talks (course plan) asks exchanges so.told at → Talks at [] [] (t ∷ []) later
-      → turn_line plan.requests (move_seen did.action) ≡ told_line plan t → IsLeftAlone old.scene new.scene old.log new.log × (new.due ≡ None) → IsTalkSoFar plan opening start first new (suc taken)
-  told_one t at later left is talks step line alone =
+      → turn_line plan.requests (move_seen did.action) ≡ told_line plan t → new.tally ≡ tally_told old.tally t → IsLeftAlone old.scene new.scene old.log new.log × (new.due ≡ None) → IsTalkSoFar plan opening start first new (suc taken)
+  told_one t at later left is talks step line count alone =
       let more = talks_on (course plan) at later asks [] exchanges [] so.told (t ∷ []) talks step in
       let here_now : Talks (course plan) asks exchanges (so.told ++ t ∷ []) later =
       subst (λ (a : List Ask). Talks (course plan) a exchanges (so.told ++ t ∷ []) later) (append-nil asks) (subst (λ (es : List Exchange). Talks (course plan) (asks ++ []) es (so.told ++ t ∷ []) later) (append-nil exchanges) more) in
       quiet (so.told ++ t ∷ []) (record { course = later; waits = false; ended = false }) (left ∙ is) here_now refl alone
-      (wrote (told_line plan t) (told_lines plan (so.told ++ t ∷ []) ++ []) line (told_so plan so.told t)) (λ e. ap suc taken_is ∙ sym (one_longer so.exchanges so.pending so.told t)) (λ e. absurd (cc))
+      (subst (λ (y : Tally). IsTallyOf (so.told ++ t ∷ []) y) (sym count) (tally_on so.told t old.tally so.tallied)) (wrote (told_line plan t) (told_lines plan (so.told ++ t ∷ []) ++ []) line (told_so plan so.told t)) (λ e. ap suc taken_is ∙ sym (one_longer so.exchanges so.pending so.told t)) (λ e. absurd (cc))
 
   ended_so : (at : Course) → new.terminal ≡ record { course = at; waits = false; ended = true } → Talks (course plan) asks exchanges so.told at → turn_line plan.requests (move_seen did.action) ≡ stop_line at
-      → IsLeftAlone old.scene new.scene old.log new.log × (new.due ≡ None) → IsEnd at → IsTalkSoFar plan opening start first new (suc taken)
-  ended_so at left talks line alone end =
-      quiet so.told (record { course = at; waits = false; ended = true }) left talks refl alone (wrote (stop_line at) (told_lines plan so.told ++ stop_line at) line refl) (λ e. absurd (cc)) (λ e. end)
+      → new.tally ≡ old.tally → IsLeftAlone old.scene new.scene old.log new.log × (new.due ≡ None) → IsEnd at → IsTalkSoFar plan opening start first new (suc taken)
+  ended_so at left talks line count alone end =
+      quiet so.told (record { course = at; waits = false; ended = true }) left talks refl alone (tally_as count) (wrote (stop_line at) (told_lines plan so.told ++ stop_line at) line refl) (λ e. absurd (cc)) (λ e. end)
 
   by : (at : Course) → move_seen did.action ≡ move_of at → new.terminal ≡ left_at at → Talks (course plan) asks exchanges so.told at → ChipDid old.scene new.scene old.log new.log new.due (move_of at) → IsTalkSoFar plan opening start first new (suc taken)
   by (Asks question later) is left talks chip = absurd (never_asks did.action question is)
@@ -195,13 +235,14 @@ talk_more plan opening start first old new taken so alive tells did = by did.goe
         replies = ran.1;
         written = λ telling. subst (λ (t : TerminalView). Grew first.sink.written new.sink.written (written_so_far plan so.told t)) (sym left) (wrote [] (told_lines plan so.told ++ []) (ap (turn_line plan.requests) is) refl telling);
         counted = λ alive_now. ap suc taken_is ∙ sym (one_sent so.exchanges so.pending so.told e);
+        tallied = tally_as (count_at (Sends channel command later) is);
         over = λ ended. absurd (let no : new.terminal.ended ≡ false = ap (λ (t : TerminalView). t.ended) left in cc);
       }
-  by (Passes step later) is left talks chip = told_one (Passed step) (Passes step later) later left refl talks (refl, here later) (ap (turn_line plan.requests) is) chip
-  by (Gives place reply later) is left talks chip = told_one (Result place reply) (Gives place reply later) later left refl talks (refl, here later) (ap (turn_line plan.requests) is) chip
-  by (Stops step status) is left talks chip = ended_so (Stops step status) left talks (ap (turn_line plan.requests) is) chip tt
-  by (Faults step) is left talks chip = ended_so (Faults step) left talks (ap (turn_line plan.requests) is) chip tt
-  by Ends is left talks chip = ended_so Ends left talks (ap (turn_line plan.requests) is) chip tt
+  by (Passes step later) is left talks chip = told_one (Passed step) (Passes step later) later left refl talks (refl, here later) (ap (turn_line plan.requests) is) (count_at (Passes step later) is) chip
+  by (Gives place reply later) is left talks chip = told_one (Result place reply) (Gives place reply later) later left refl talks (refl, here later) (ap (turn_line plan.requests) is) (count_at (Gives place reply later) is) chip
+  by (Stops step status) is left talks chip = ended_so (Stops step status) left talks (ap (turn_line plan.requests) is) (count_at (Stops step status) is) chip tt
+  by (Faults step) is left talks chip = ended_so (Faults step) left talks (ap (turn_line plan.requests) is) (count_at (Faults step) is) chip tt
+  by Ends is left talks chip = ended_so Ends left talks (ap (turn_line plan.requests) is) (count_at Ends is) chip tt
 
 -- ---- where it begins
 
@@ -230,10 +271,10 @@ no_lines opening start at log fits same dark = record {
 }
 
 pub talk_begun : (plan : PlainPlan) (opening : FullRecord) (start at : Scene) (first now : Standing) (input : Event) → Fits at opening [] → at.device ≡ start.device → (start.device.has_power ≡ false → is_off at.chip ≡ true → at.device.has_power ≡ false)
-    → IsLine at now.scene first.log first.log OnLine (Did (silent input)) → Keeps at now.scene OnLine → now.terminal ≡ begun plan → now.due ≡ None → now.log ≡ first.log → now.copro ≡ first.copro → now.sink ≡ first.sink
+    → IsLine at now.scene first.log first.log OnLine (Did (silent input)) → Keeps at now.scene OnLine → now.terminal ≡ begun plan → now.due ≡ None → now.log ≡ first.log → now.copro ≡ first.copro → now.sink ≡ first.sink → now.tally ≡ no_results
     → IsTalkSoFar plan opening start first now 0
 unfolding no_lines
-talk_begun plan opening start at first now input fits same dark made keeps terminal due log copro sink =
+talk_begun plan opening start at first now input fits same dark made keeps terminal due log copro sink tally =
     let empty = no_lines opening start at first.log fits same dark in
     let did : DidLine at now.scene first.log first.log OnLine untold untold = record { happened = Did (silent input); made = made; written = λ never. absurd (cc) } in
     let ran = ran_more opening start at now.scene first.log first.log first.log [] OnLine untold untold untold refl empty did keeps in
@@ -257,6 +298,7 @@ talk_begun plan opening start at first now input fits same dark made keeps termi
           ap (λ (s : SinkSeen). s.written) sink ∙ sym (append-nil first.sink.written)
           ∙ ap (λ (b : Bool). first.sink.written ++ (if b then stop_line now.terminal.course else [])) (sym (ap (λ (t : TerminalView). t.ended) terminal));
       counted = λ alive. refl;
+      tallied = subst (λ (y : Tally). IsTallyOf [] y) (sym tally) (record { answered = refl; refused = refl });
       over = λ ended. absurd (let no : now.terminal.ended ≡ false = ap (λ (t : TerminalView). t.ended) terminal in cc);
     }
 
@@ -283,14 +325,14 @@ conversed plan opening chip chip_now old new terminal terminal_now asks exchange
 }
 
 -- the whole session
-pub talk_ended : (plan : PlainPlan) (opening : FullRecord) (chip chip_now : ChipView) (old new : Outside) (terminal terminal_now : CoproSeen) (first_terminal terminal_at : TerminalView) (first_due due : Option (List ℕ)) (taken : ℕ)
-    → IsTalkSoFar plan opening (scene chip old.device old.cells) (standing (scene chip old.device old.cells) old.copro.log terminal first_terminal first_due old.sink)
-    (standing (scene chip_now new.device new.cells) new.copro.log terminal_now terminal_at due new.sink) taken
-    → terminal_at.ended ≡ true → new.copro.told ≡ old.copro.told → slice_index new.cells 0 ≡ slice_index old.cells 0 → terminal_now.told ≡ terminal.told → DidSession plan opening old new terminal terminal_now
+pub talk_ended : (plan : PlainPlan) (opening : FullRecord) (chip chip_now : ChipView) (old new : Outside) (terminal terminal_now : CoproSeen) (first_terminal terminal_at : TerminalView) (first_due due : Option (List ℕ)) (tally : Tally) (taken : ℕ)
+    → IsTalkSoFar plan opening (scene chip old.device old.cells) (standing (scene chip old.device old.cells) old.copro.log terminal first_terminal first_due old.sink no_results)
+    (standing (scene chip_now new.device new.cells) new.copro.log terminal_now terminal_at due new.sink tally) taken
+    → terminal_at.ended ≡ true → new.copro.told ≡ old.copro.told → slice_index new.cells 0 ≡ slice_index old.cells 0 → terminal_now.told ≡ terminal.told → CountedSession plan opening old new terminal terminal_now tally
 unfolding conversed
-talk_ended plan opening chip chip_now old new terminal terminal_now first_terminal terminal_at first_due due taken so ended chip_told layout same =
+talk_ended plan opening chip chip_now old new terminal terminal_now first_terminal terminal_at first_due due tally taken so ended chip_told layout same =
     let over = so.over ended in
-    record {
+    let did : DidSession plan opening old new terminal terminal_now = record {
       told = so.told;
       at = terminal_at.course;
       conversed = conversed plan opening chip chip_now old new terminal terminal_now so.asks so.exchanges so.told so.pending terminal_at.course so.talks so.run so.replies chip_told layout so.logged same;
@@ -298,7 +340,7 @@ talk_ended plan opening chip chip_now old new terminal terminal_now first_termin
       done = refl;
       ended = over.0;
       written = λ telling. so.written telling ∙ ap (λ (b : Bool). old.sink.written ++ (told_lines plan so.told ++ (if b then stop_line terminal_at.course else []))) ended;
-    }
+    } in record { did = did; counted = so.tallied }
 
 -- ---- where it breaks off
 
@@ -314,13 +356,13 @@ part_written start was now text line tail whole earlier grew is = (
   grew.2 ∙ ap (λ (l : List ℕ). l ++ grew.0) (earlier ∙ ap (λ (l : List ℕ). start ++ l) (append-nil text)) ∙ append_assoc start text grew.0,
 )
 
-pub talk_broke : (plan : PlainPlan) (opening : FullRecord) (chip chip_was chip_now : ChipView) (old was new : Outside) (terminal terminal_was terminal_now : CoproSeen) (first_terminal was_at now_at : TerminalView) (first_due was_due now_due : Option (List ℕ)) (taken : ℕ)
-    → IsTalkSoFar plan opening (scene chip old.device old.cells) (standing (scene chip old.device old.cells) old.copro.log terminal first_terminal first_due old.sink)
-    (standing (scene chip_was was.device was.cells) was.copro.log terminal_was was_at was_due was.sink) taken
+pub talk_broke : (plan : PlainPlan) (opening : FullRecord) (chip chip_was chip_now : ChipView) (old was new : Outside) (terminal terminal_was terminal_now : CoproSeen) (first_terminal was_at now_at : TerminalView) (first_due was_due now_due : Option (List ℕ)) (was_tally now_tally : Tally) (taken : ℕ)
+    → IsTalkSoFar plan opening (scene chip old.device old.cells) (standing (scene chip old.device old.cells) old.copro.log terminal first_terminal first_due old.sink no_results)
+    (standing (scene chip_was was.device was.cells) was.copro.log terminal_was was_at was_due was.sink was_tally) taken
     → was_at.ended ≡ false → was.sink.tells ≡ old.sink.tells
-    → BrokeTurn plan.requests (standing (scene chip_was was.device was.cells) was.copro.log terminal_was was_at was_due was.sink) (standing (scene chip_now new.device new.cells) new.copro.log terminal_now now_at now_due new.sink)
+    → BrokeTurn plan.requests (standing (scene chip_was was.device was.cells) was.copro.log terminal_was was_at was_due was.sink was_tally) (standing (scene chip_now new.device new.cells) new.copro.log terminal_now now_at now_due new.sink now_tally)
     → new.copro.told ≡ old.copro.told → slice_index new.cells 0 ≡ slice_index old.cells 0 → terminal_now.told ≡ terminal.told → DidPartOfSession plan opening old new terminal terminal_now
-talk_broke plan opening chip chip_was chip_now old was new terminal terminal_was terminal_now first_terminal was_at now_at first_due was_due now_due taken so alive tells broke chip_told layout same = by broke where
+talk_broke plan opening chip chip_was chip_now old was new terminal terminal_was terminal_now first_terminal was_at now_at first_due was_due now_due was_tally now_tally taken so alive tells broke chip_told layout same = by broke where
   start : Scene
   start = scene chip old.device old.cells
 
@@ -332,7 +374,7 @@ talk_broke plan opening chip chip_was chip_now old was new terminal terminal_was
       → (now : IsRunSoFar opening start (scene chip_now new.device new.cells) old.copro.log new.copro.log (session_lines (exchanges ++ [])) untold untold) × (replies_in (journal now.happened) ≡ map reply_of (exchanges ++ []))
   alone_run exchanges alone run replies = run_alone opening start (scene chip_was was.device was.cells) (scene chip_now new.device new.cells) old.copro.log was.copro.log new.copro.log exchanges run replies alone
 
-  not_taken : NoTurn (standing (scene chip_was was.device was.cells) was.copro.log terminal_was was_at was_due was.sink) (standing (scene chip_now new.device new.cells) new.copro.log terminal_now now_at now_due new.sink) → DidPartOfSession plan opening old new terminal terminal_now
+  not_taken : NoTurn (standing (scene chip_was was.device was.cells) was.copro.log terminal_was was_at was_due was.sink was_tally) (standing (scene chip_now new.device new.cells) new.copro.log terminal_now now_at now_due new.sink now_tally) → DidPartOfSession plan opening old new terminal terminal_now
   not_taken none =
       let ran = alone_run (so.exchanges ++ option_to_list so.pending) none.chip so.run so.replies in
       let both : (now : IsRunSoFar opening start (scene chip_now new.device new.cells) old.copro.log new.copro.log (session_lines (so.exchanges ++ option_to_list so.pending)) untold untold) × (replies_in (journal now.happened) ≡ map reply_of (so.exchanges ++ option_to_list so.pending)) =
@@ -344,7 +386,7 @@ talk_broke plan opening chip chip_was chip_now old was new terminal terminal_was
         written = λ telling. (told_lines plan so.told, (stop_line was_at.course, refl), none.written (tells ∙ telling) ∙ earlier telling ∙ ap (λ (l : List ℕ). old.sink.written ++ l) (append-nil (told_lines plan so.told)));
       }
 
-  partly : (p : PartOfTurn plan.requests (standing (scene chip_was was.device was.cells) was.copro.log terminal_was was_at was_due was.sink) (standing (scene chip_now new.device new.cells) new.copro.log terminal_now now_at now_due new.sink)) → DidPartOfSession plan opening old new terminal terminal_now
+  partly : (p : PartOfTurn plan.requests (standing (scene chip_was was.device was.cells) was.copro.log terminal_was was_at was_due was.sink was_tally) (standing (scene chip_now new.device new.cells) new.copro.log terminal_now now_at now_due new.sink now_tally)) → DidPartOfSession plan opening old new terminal terminal_now
   partly p = at_move p.goes.at p.goes.is all.talks where
     asks : List Ask
     asks = so.asks ++ p.goes.asks
@@ -353,8 +395,8 @@ talk_broke plan opening chip chip_was chip_now old was new terminal terminal_was
     exchanges = so.exchanges ++ option_to_list so.pending
 
     all : Turned plan asks exchanges so.told terminal.log terminal_now.log p.goes.at
-    all = turned plan opening start (standing start old.copro.log terminal first_terminal first_due old.sink) (standing (scene chip_was was.device was.cells) was.copro.log terminal_was was_at was_due was.sink)
-        (standing (scene chip_now new.device new.cells) new.copro.log terminal_now now_at now_due new.sink) taken so p.asked p.action p.room p.goes
+    all = turned plan opening start (standing start old.copro.log terminal first_terminal first_due old.sink no_results) (standing (scene chip_was was.device was.cells) was.copro.log terminal_was was_at was_due was.sink was_tally)
+        (standing (scene chip_now new.device new.cells) new.copro.log terminal_now now_at now_due new.sink now_tally) taken so p.asked p.action p.room p.goes
 
     part_of : (told : List Told) (at : Course) (line tail : List ℕ) → Talks (course plan) asks exchanges told at → turn_line plan.requests (move_seen p.action) ≡ line → report plan told at ≡ (told_lines plan so.told ++ line) ++ tail → DidPartOfSession plan opening old new terminal terminal_now
     part_of told at line tail talks is whole =
@@ -386,7 +428,7 @@ talk_broke plan opening chip chip_was chip_now old was new terminal terminal_was
     at_move (Faults step) is talks = stopped (Faults step) talks (ap (turn_line plan.requests) is)
     at_move Ends is talks = stopped Ends talks (ap (turn_line plan.requests) is)
 
-  by : BrokeTurn plan.requests (standing (scene chip_was was.device was.cells) was.copro.log terminal_was was_at was_due was.sink) (standing (scene chip_now new.device new.cells) new.copro.log terminal_now now_at now_due new.sink) → DidPartOfSession plan opening old new terminal terminal_now
+  by : BrokeTurn plan.requests (standing (scene chip_was was.device was.cells) was.copro.log terminal_was was_at was_due was.sink was_tally) (standing (scene chip_now new.device new.cells) new.copro.log terminal_now now_at now_due new.sink now_tally) → DidPartOfSession plan opening old new terminal terminal_now
   by (inl none) = not_taken none
   by (inr p) = partly p
 

@@ -117,6 +117,10 @@ pub record Outside : Type 0 where
 abbrev pub outside : Device → List ℕ → CoproSeen → SinkSeen → Outside
 outside device cells copro sink = record { device = device; cells = cells; copro = copro; sink = sink }
 
+-- the device that a run begins with: it has no power, and no cut is planned
+abbrev pub resting : Device
+resting = record { has_power = false; told = true; planned = 0; cuts = 0 }
+
 -- What a run of lines did, whose moments are this journal: it is legal; the device's count of cuts rose by each cut of the
 -- power, as far as it can count, and where it did not rise there was none, nor where the device told that no cut was planned
 -- and no line planned one; where it tells its plans, and can count a cut more for each line, cuts come as they were planned;

@@ -1,5 +1,5 @@
 -- What a sink shows after a run, or a part of one.
-use Rattle.std.specs.Prelude.{◌≡◌, ◌≤◌, Result, IsErrOf}
+use Rattle.std.specs.Prelude.{◌≡◌, ◌≤◌, false, [], Result, IsErrOf}
 use Rattle.eid_base.specs.declared.codes.RunError.{RunError}
 use Rattle.eid_base.specs.declared.codes.RunError.TheVariants.{SinkFault}
 use Rattle.eid_base.specs.Faults.{Rose}
@@ -11,3 +11,7 @@ pub record TellsFault {T : Type 0} (before now : SinkSeen) (result : Result T Ru
   pub later : before.faults ≤ now.faults
   pub fault : IsErrOf result SinkFault → Rose before.faults now.faults
   pub still : (IsErrOf result SinkFault → ⊥) → now.faults ≡ before.faults
+
+-- a sink that tells nothing
+abbrev pub untold : SinkSeen
+untold = record { tells = false; written = []; faults = 0 }

@@ -7,6 +7,8 @@ use Rattle.std.specs.List.{slice_get}
 use Rattle.eid_chip.specs.Fits.{Came, Silence, Answer, Loss, Scene, IsSound}
 use Rattle.eid_model.specs.Moments.{PlainMoment}
 use Rattle.eid_copro.specs.Seen.{CoproSeen}
+use Rattle.eid_copro.specs.Told.{AnswersFrom, KeepsTo, Source}
+use Rattle.eid_copro.specs.Told as told
 use Rattle.eid_copro.specs.declared.ask.Ask.{Ask}
 use Rattle.eid_record.specs.Plain.{FullRecord}
 use Rattle.eid_script.specs.Scripts.{ApduLine}
@@ -20,13 +22,16 @@ use Rattle.eid_run.specs.Conversations.{Exchange, IsEnd, Told, Talks, reply_of}
 use Rattle.eid_run.specs.Lines.{IsLine, IsRunSoFar, Keeps}
 use Rattle.eid_run.specs.Report.{asked_line, fault_line, passed_line, stop_line, stopped_line, told_lines}
 use Rattle.eid_run.specs.Runs.{Did, journal}
+use Rattle.eid_run.specs.Sinks.{untold}
 use Rattle.eid_run.specs.Sessions.{replied, replies_in, session_lines}
+use Rattle.eid_run.specs.Tallies.{IsTallyOf, tally_more}
+use Rattle.eid_run.specs.declared.tally.Tally.{Tally}
 use Rattle.eid_run.specs.declared.session.Due.{Due}
 use Rattle.eid_run.specs.declared.session.Due.TheVariants.{Nothing, Sent, NoBytes}
 
--- a sink that tells nothing: a session writes no trace
-abbrev pub untold : SinkSeen
-untold = record { tells = false; written = []; faults = 0 }
+-- a coprocessor that tells this has its answers from the source
+abbrev pub HasSource : told.Told → Source → Type 0
+HasSource of source = (log : List Ask) → KeepsTo of log → AnswersFrom source log
 
 -- the bytes that came back
 abbrev pub sent_back : Came → List ℕ
@@ -78,7 +83,7 @@ ChipDid old new log log_now due (moves.Faults step) = IsLeftAlone old new log lo
 ChipDid old new log log_now due moves.Ends = IsLeftAlone old new log log_now × (due ≡ None)
 
 -- where a session stands: the chip, the log of its coprocessor, the terminal's coprocessor, the terminal, the reply that
--- is due, and the sink
+-- is due, the sink, and the tally of the results
 pub record Standing : Type 0 where
   pub scene : Scene
   pub log : List Ask
@@ -86,12 +91,13 @@ pub record Standing : Type 0 where
   pub terminal : TerminalView
   pub due : Option (List ℕ)
   pub sink : SinkSeen
+  pub tally : Tally
 
-abbrev pub standing : Scene → List Ask → CoproSeen → TerminalView → Option (List ℕ) → SinkSeen → Standing
-standing scene log copro terminal due sink =
-    record { scene = scene; log = log; copro = copro; terminal = terminal; due = due; sink = sink }
+abbrev pub standing : Scene → List Ask → CoproSeen → TerminalView → Option (List ℕ) → SinkSeen → Tally → Standing
+standing scene log copro terminal due sink tally =
+    record { scene = scene; log = log; copro = copro; terminal = terminal; due = due; sink = sink; tally = tally }
 
--- the terminal took its turn, the chip did what it was asked to, and the turn was told
+-- the terminal took its turn, the chip did what it was asked to, and the turn was told and counted
 pub record DidTurn (requests : List Request) (old new : Standing) : Type 0 where
   pub asked : CoproSeen
   pub room : asked.log ≡ old.copro.log
@@ -99,6 +105,7 @@ pub record DidTurn (requests : List Request) (old new : Standing) : Type 0 where
   pub goes : Goes asked new.copro old.terminal new.terminal old.due (move_seen action)
   pub chip : ChipDid old.scene new.scene old.log new.log new.due (move_seen action)
   pub written : IsTrue old.sink.tells → Grew old.sink.written new.sink.written (turn_line requests (move_seen action))
+  pub counted : new.tally ≡ tally_more old.tally (move_seen action)
 
 -- the turn broke off: it was not taken, or it was not told whole, or the chip had no room for a command's questions
 pub record PartOfTurn (requests : List Request) (old new : Standing) : Type 0 where
@@ -145,4 +152,5 @@ pub record IsTalkSoFar (plan : PlainPlan) (opening : FullRecord) (start : Scene)
   pub replies : replies_in (journal run.happened) ≡ map reply_of (exchanges ++ option_to_list pending)
   pub written : IsTrue first.sink.tells → Grew first.sink.written now.sink.written (written_so_far plan told now.terminal)
   pub counted : now.terminal.ended ≡ false → taken ≡ turns exchanges pending told
+  pub tallied : IsTallyOf told now.tally
   pub over : now.terminal.ended ≡ true → IsEnd now.terminal.course × (pending ≡ None)

@@ -1,9 +1,13 @@
-//! Running scripts over a chip and its device.
+//! Running scripts over a chip and its device, and terminals with a chip.
 #![tactic(auto)]
 
+mod big;
+mod quiet;
 mod report;
 mod run;
 mod session;
+mod tally;
 
+pub use big::big_workload;
 pub use run::run_script;
 pub use session::run_session;

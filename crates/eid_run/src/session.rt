@@ -1,5 +1,5 @@
 //! A session: a terminal and a chip together.
-ghost use Rattle.std.specs.Prelude.{◌≡◌, false, Some, is_some, IsSome, IsTrue, IfOk, OnOk, OnErr, slice_index};
+ghost use Rattle.std.specs.Prelude.{◌≡◌, ◌+◌, ◌<◌, ◌≤◌, ◌^◌, false, Some, is_some, IsSome, IsTrue, IfOk, OnOk, OnErr, slice_index};
 ghost use Rattle.std.specs.Option.{option_copied};
 ghost use Rattle.eid_base.specs.Seen.{Grew, GrewByPart};
 ghost use Rattle.eid_chip.specs.Fits.{IsSound, came_in, scene};
@@ -15,9 +15,11 @@ ghost use Rattle.eid_terminal.specs.Plans.{IsFit, plan_view};
 ghost use Rattle.eid_run.specs.Runs.{outside};
 ghost use Rattle.eid_run.specs.Sessions.{DidPartOfSession, DidSession};
 ghost use Rattle.eid_run.specs.Sinks.{TellsFault};
+ghost use Rattle.eid_run.specs.Tallies.{CountedSession};
 
 use crate::report::{put_asked, put_failed, put_passed, put_stopped};
 use crate::run::{handle, power_on, print};
+use crate::tally::Tally;
 use eid_base::{NoMemory, RunError, Sink};
 use eid_cells::Eeprom;
 use eid_chip::{Chip, Exchange, HandledIn};
@@ -30,7 +32,7 @@ use std::alloc::Global;
 const QUESTIONS: usize = 3;
 /// A terminal has ended after fewer turns: in each it sends a command or tells something, and one command may wait for
 /// its reply.
-const MOST_TURNS: usize = MAX_TURNS + 2;
+pub const MOST_TURNS: usize = MAX_TURNS + 2;
 
 /// The reply that the terminal waits for.
 #[derive(Clone, Copy)]
@@ -129,7 +131,7 @@ fn answer<E: Eeprom, C: Coprocessor>(
 }
 
 /// Takes one turn: the terminal goes on, by the reply where one is due; its command is handed to the chip, and what it
-/// tells is written.
+/// tells is written and counted.
 fn take_turn<E: Eeprom, C: Coprocessor, D: Coprocessor, K: Sink>(
     chip: &mut Chip,
     terminal: &mut Terminal,
@@ -141,25 +143,30 @@ fn take_turn<E: Eeprom, C: Coprocessor, D: Coprocessor, K: Sink>(
     exchange: &mut Exchange,
     text: &mut Text,
     out: &mut K,
+    tally: &mut Tally,
 ) -> Result<(), RunError>
     requires sound { IsSound (scene chip.old (E.device cells.old) (E.cells cells.old)) }
+    requires answered { tally.old.answered + 1 < 2 ^ 32 }
+    requires refused { tally.old.refused + 1 < 2 ^ 32 }
     requires going { (terminal_view terminal.old).ended ≡ false }
     requires waits { is_some (due_bytes due.old exchange.old.sent.items) ≡ (terminal_view terminal.old).waits }
     ensures did { OnOk result (DidTurn requests.now
         (standing (scene chip.old (E.device cells.old) (E.cells cells.old)) (C.seen chip_copro.old).log (D.seen terminal_copro.old)
-        (terminal_view terminal.old) (due_bytes due.old exchange.old.sent.items) (K.seen out.old))
+        (terminal_view terminal.old) (due_bytes due.old exchange.old.sent.items) (K.seen out.old) tally.old)
         (standing (scene chip.new (E.device cells.new) (E.cells cells.new)) (C.seen chip_copro.new).log (D.seen terminal_copro.new)
-        (terminal_view terminal.new) (due_bytes due.new exchange.new.sent.items) (K.seen out.new))) }
+        (terminal_view terminal.new) (due_bytes due.new exchange.new.sent.items) (K.seen out.new) tally.new)) }
     ensures broke { OnErr result (BrokeTurn requests.now
         (standing (scene chip.old (E.device cells.old) (E.cells cells.old)) (C.seen chip_copro.old).log (D.seen terminal_copro.old)
-        (terminal_view terminal.old) (due_bytes due.old exchange.old.sent.items) (K.seen out.old))
+        (terminal_view terminal.old) (due_bytes due.old exchange.old.sent.items) (K.seen out.old) tally.old)
         (standing (scene chip.new (E.device cells.new) (E.cells cells.new)) (C.seen chip_copro.new).log (D.seen terminal_copro.new)
-        (terminal_view terminal.new) (due_bytes due.new exchange.new.sent.items) (K.seen out.new))) }
+        (terminal_view terminal.new) (due_bytes due.new exchange.new.sent.items) (K.seen out.new) tally.new)) }
     ensures sound { IsSound (scene chip.new (E.device cells.new) (E.cells cells.new)) }
     ensures layout { slice_index (E.cells cells.new) 0 ≡ slice_index (E.cells cells.old) 0 }
     ensures chip_told { (C.seen chip_copro.new).told ≡ (C.seen chip_copro.old).told }
     ensures terminal_told { (D.seen terminal_copro.new).told ≡ (D.seen terminal_copro.old).told }
     ensures sink { TellsFault (K.seen out.old) (K.seen out.new) result }
+    ensures answered { tally.new.answered ≤ tally.old.answered + 1 }
+    ensures refused { tally.new.refused ≤ tally.old.refused + 1 }
 {
     if terminal_copro.make_room(QUESTIONS).is_err() {
         return Err(RunError::NoMemory);
@@ -173,7 +180,66 @@ fn take_turn<E: Eeprom, C: Coprocessor, D: Coprocessor, K: Sink>(
         return Ok(());
     }
     *due = Due::Nothing;
+    tally.count(&action);
     tell(requests, &action, text, out)
+}
+
+/// Runs a terminal and a chip together, writes what the terminal tells, and counts the results.
+pub fn converse<E: Eeprom, C: Coprocessor, D: Coprocessor, K: Sink>(
+    alloc: Global,
+    plan: Plan,
+    cells: &mut E,
+    chip_copro: &mut C,
+    terminal_copro: &mut D,
+    out: &mut K,
+) -> Result<Tally, RunError>
+    requires stands { IsSome (stands (E.cells cells.old)) }
+    requires fit { IsFit (plan_view plan) }
+    ensures did { IfOk result (λ tally. (opening : FullRecord) → stands (E.cells cells.old) ≡ Some opening
+        → CountedSession (plan_view plan) opening
+        (outside (E.device cells.old) (E.cells cells.old) (C.seen chip_copro.old) (K.seen out.old))
+        (outside (E.device cells.new) (E.cells cells.new) (C.seen chip_copro.new) (K.seen out.new))
+        (D.seen terminal_copro.old) (D.seen terminal_copro.new) tally) }
+    ensures few { IfOk result (λ tally. (tally.answered ≤ MOST_TURNS) × (tally.refused ≤ MOST_TURNS)) }
+    ensures broke { OnErr result ((opening : FullRecord) → stands (E.cells cells.old) ≡ Some opening
+        → DidPartOfSession (plan_view plan) opening
+        (outside (E.device cells.old) (E.cells cells.old) (C.seen chip_copro.old) (K.seen out.old))
+        (outside (E.device cells.new) (E.cells cells.new) (C.seen chip_copro.new) (K.seen out.new))
+        (D.seen terminal_copro.old) (D.seen terminal_copro.new)) }
+    ensures sink { TellsFault (K.seen out.old) (K.seen out.new) result }
+{
+    let mut chip = Chip::new();
+    let mut requests = Vec::new(alloc);
+    let Ok(()) = requests.extend_from_slice(plan.requests.as_slice()) else {
+        return Err(RunError::NoMemory);
+    };
+    let mut terminal = Terminal::new(plan);
+    let mut due = Due::Nothing;
+    let mut exchange = Exchange::new();
+    let mut text = Text::new(alloc);
+    let mut tally = Tally::new();
+    power_on(&mut chip, cells);
+    for _ in 0..MOST_TURNS {
+        if let Err(error) = take_turn(
+            &mut chip,
+            &mut terminal,
+            &mut due,
+            requests.as_slice(),
+            cells,
+            chip_copro,
+            terminal_copro,
+            &mut exchange,
+            &mut text,
+            out,
+            &mut tally,
+        ) {
+            return Err(error);
+        }
+        if terminal.ended() {
+            return Ok(tally);
+        }
+    }
+    unreachable!()
 }
 
 /// Runs a terminal and a chip together: the chip is given power, then the terminal carries out its plan, each of its
@@ -203,34 +269,8 @@ pub fn run_session<E: Eeprom, C: Coprocessor, D: Coprocessor, K: Sink>(
         (D.seen terminal_copro.old) (D.seen terminal_copro.new)) }
     ensures sink { TellsFault (K.seen out.old) (K.seen out.new) result }
 {
-    let mut chip = Chip::new();
-    let mut requests = Vec::new(alloc);
-    let Ok(()) = requests.extend_from_slice(plan.requests.as_slice()) else {
-        return Err(RunError::NoMemory);
-    };
-    let mut terminal = Terminal::new(plan);
-    let mut due = Due::Nothing;
-    let mut exchange = Exchange::new();
-    let mut text = Text::new(alloc);
-    power_on(&mut chip, cells);
-    for _ in 0..MOST_TURNS {
-        if let Err(error) = take_turn(
-            &mut chip,
-            &mut terminal,
-            &mut due,
-            requests.as_slice(),
-            cells,
-            chip_copro,
-            terminal_copro,
-            &mut exchange,
-            &mut text,
-            out,
-        ) {
-            return Err(error);
-        }
-        if terminal.ended() {
-            return Ok(());
-        }
+    match converse(alloc, plan, cells, chip_copro, terminal_copro, out) {
+        Ok(_) => Ok(()),
+        Err(error) => Err(error),
     }
-    unreachable!()
 }

@@ -15,6 +15,8 @@ const REFUSED: &str =
 const SILENT: &str =
     "apdu 00a4040c09e80704007f00070302\n plain none\n finished 0\n rule 0\n answer none\n sent none\n";
 
+const ONE_SESSION: &str = "sessions 1\nanswered 2\nrefused 1\ncommits 2\n";
+
 /// A configuration of a certificate.
 const VERIFIER: &str = "issuer = 'DECVCAAT00001'
 holder = 'DETESTDV00001'
@@ -53,6 +55,8 @@ const CALLS: &[(&str, &str, u8, u32, &str)] = &[
     ("`make` makes an image", "make chip new", 0, 0, ""),
     ("`kit` makes a certificate", "kit verifier new", 0, 0, ""),
     ("`show` prints sixteen lines", "show image", 0, 0, SHOWN),
+    ("one generated session", "big 1", 0, 0, ONE_SESSION),
+    ("no generated session", "big 0", 1, 0, ""),
     ("two words are no run", "run image", 1, 0, ""),
     ("one word is no `kit`", "kit verifier", 1, 0, ""),
     ("a start with a leading zero", "run image script 00", 1, 0, ""),
@@ -94,6 +98,8 @@ const FAULTS: &[(&str, &str, u32, u32, u8, &str)] = &[
     ("the configuration of a certificate is not read", "kit verifier image", 1, 0, 2, ""),
     ("the certificate is not written", "kit verifier image", 2, 0, 2, ""),
     ("`kit` has two calls of the folder and none of the sink", "kit verifier new", 3, 1, 0, ""),
+    ("the numbers of generated sessions are not printed", "big 1", 0, 1, 7, ""),
+    ("`big` has one call of the sink and none of the folder", "big 1", 1, 2, 0, ONE_SESSION),
     ("the image to be shown is not read", "show image", 1, 0, 2, ""),
     ("the text is not printed", "show image", 0, 1, 7, ""),
 ];

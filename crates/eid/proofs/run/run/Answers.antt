@@ -4,7 +4,8 @@ use Rattle.eid_copro.specs.Model.{model_answer}
 use Rattle.eid_script.specs.Scripts.{plain_line}
 use Rattle.eid.specs.Commands.{Run}
 use Rattle.eid.specs.Ends.{setup}
-use Rattle.eid.proofs.EndsOfRun.{run_reads, image_refused, script_refused, opened, read_after, script_back, model_source, run_ends, run_meets}
+use Rattle.eid_run.proofs.Meeting.{model_source}
+use Rattle.eid.proofs.EndsOfRun.{run_reads, image_refused, script_refused, opened, read_after, script_back, run_ends, run_meets}
 use Rattle.eid.proofs.run.run.Goals as goal
 
 pub returns-in-Err-clause-meets : goal.returns-in-Err-clause-meets

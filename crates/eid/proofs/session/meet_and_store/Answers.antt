@@ -1,9 +1,9 @@
 -- Each end of a session, by what its steps promise.
 use Rattle.std.proofs.Common.{ap, Err}
 use Rattle.eid_terminal.specs.Plans.{plan_view}
-use Rattle.eid.specs.Ends.{meeting}
-use Rattle.eid.specs.Session.{Coprocessors}
-use Rattle.eid.proofs.EndsOfSession.{broke_off, met_whole, all_done, not_stored}
+use Rattle.eid_run.specs.Meetings.{Coprocessors, meeting}
+use Rattle.eid_run.proofs.Meeting.{met_whole}
+use Rattle.eid.proofs.EndsOfSession.{broke_off, all_done, not_stored}
 use Rattle.eid.proofs.session.meet_and_store.Goals as goal
 
 pub returns-in-Err-clause-ends : goal.returns-in-Err-clause-ends

@@ -1,10 +1,8 @@
 -- Each end of the command, by what its steps promise.
-use Rattle.eid_copro.specs.Model.{model_answer}
 use Rattle.eid_terminal.specs.Plans.{plan_view}
-use Rattle.eid.specs.Commands.{Session}
-use Rattle.eid.specs.Ends.{meeting}
-use Rattle.eid.specs.Session.{inverted}
-use Rattle.eid.proofs.EndsOfRun.{opened, read_after, model_source}
+use Rattle.eid_run.specs.Meetings.{inverted, meeting}
+use Rattle.eid_run.proofs.Meeting.{model_source}
+use Rattle.eid.proofs.EndsOfRun.{opened, read_after}
 use Rattle.eid.proofs.EndsOfSession.{image_refused, plan_refused, plan_back, session_meets}
 use Rattle.eid.proofs.session.session.Goals as goal
 

@@ -1,25 +1,16 @@
 -- The fields that the mounted store keeps are those of the record that the cells stand for.
-use Rattle.std.proofs.Common.{◌≡◌, ℕ, List, Option, Some, Result, Ok, Err, slice_index, sym, ap, ◌∙◌, arith}
+use Rattle.std.proofs.Common.{◌≡◌, ℕ, Option, Some, Result, Ok, Err, slice_index, ap, ◌∙◌, arith}
 use Rattle.std.proofs.lemmas.Grind.{common_steps}
 use Rattle.std.specs.Prelude.{IfOk, Vec}
 use Rattle.std.specs.declared.alloc.Global.{Global}
 use Rattle.eid_base.specs.declared.codes.NoMemory.{NoMemory}
-use Rattle.eid_cells.specs.Device.{Device}
 use Rattle.eid_cells.specs.Memory.{memory_cells, memory_device}
 use Rattle.eid_record.specs.Plain.{PlainRecord, FullRecord}
 use Rattle.eid_record.specs.View.{record_view}
-use Rattle.eid_store.specs.declared.store.Store.{Store}
 use Rattle.eid_store.specs.Stands.{stands}
-use Rattle.eid_store.specs.Store.{Fits, fields_of}
-use Rattle.eid_store.proofs.Laws.{stood_for}
+use Rattle.eid_run.proofs.Counting.{fields_are}
 use Rattle.eid_perso.specs.Show.{shown}
 use Rattle.eid.proofs.show.text_of.Goals as goal
-
-fields_are : (store : Store) (device : Device) (cells : List ℕ) (full : FullRecord) → Fits store device cells → stands cells ≡ Some full → fields_of store ≡ full.fields
-fields_are store device cells full fits is =
-    let found = stood_for store device cells fits in
-    let same : found.0 ≡ full = cc in
-    sym found.2 ∙ ap (λ (f : FullRecord). f.fields) same
 
 shows : (r : Result (Vec ℕ Global) NoMemory) (layout first : ℕ) (fields : PlainRecord) (stood : Option FullRecord) → layout ≡ first → ((full : FullRecord) → stood ≡ Some full → fields ≡ full.fields)
     → IfOk r (λ text. text.items ≡ shown layout fields) → IfOk r (λ text. (full : FullRecord) → stood ≡ Some full → text.items ≡ shown first full.fields)

@@ -1,4 +1,4 @@
-use Rattle.std.proofs.Common.{◌≡◌, Some, None, false}
+use Rattle.std.proofs.Common.{◌≡◌, ◌≤◌, Some, None, false}
 use Rattle.std.specs.Prelude.{slice_index}
 use Rattle.eid_record.specs.Plain.{FullRecord}
 use Rattle.eid_store.specs.Stands.{stands}
@@ -7,7 +7,8 @@ use Rattle.eid_terminal.specs.Plans.{plan_view}
 use Rattle.eid_terminal.specs.Seen.{terminal_view}
 use Rattle.eid_terminal.specs.Terminals.{begun}
 use Rattle.eid_run.specs.Talk.{IsTalkSoFar, due_bytes, standing}
-use Rattle.eid_run.proofs.session.run_session.Given as goal
+use Rattle.eid_run.specs.Tallies.{no_results}
+use Rattle.eid_run.proofs.session.converse.Given as goal
 
 -- the session so far, which has not ended
 abbrev pub invariant-loop : goal.invariant-loop
@@ -21,8 +22,8 @@ invariant-loop g l =
     let start = scene (record { running = None }) (device l.fn.cells) (cells l.fn.cells) in
     record {
       talk : (opening : FullRecord) → stands (cells l.fn.cells) ≡ Some opening → IsTalkSoFar plan opening start
-          (standing start (chip_copro l.fn.chip_copro).log (terminal_copro l.fn.terminal_copro) (begun plan) None (seen l.fn.out))
-          (standing (scene l.chip (device l.cells) (cells l.cells)) (chip_copro l.chip_copro).log (terminal_copro l.terminal_copro) (terminal_view l.terminal) (due_bytes l.due l.exchange.sent.items) (seen l.out)) l.counter;
+          (standing start (chip_copro l.fn.chip_copro).log (terminal_copro l.fn.terminal_copro) (begun plan) None (seen l.fn.out) no_results)
+          (standing (scene l.chip (device l.cells) (cells l.cells)) (chip_copro l.chip_copro).log (terminal_copro l.terminal_copro) (terminal_view l.terminal) (due_bytes l.due l.exchange.sent.items) (seen l.out) l.tally) l.counter;
       going : (terminal_view l.terminal).ended ≡ false;
       requests : l.requests.items ≡ l.fn.plan.requests.items;
       sound : IsSound (scene l.chip (device l.cells) (cells l.cells));
@@ -31,4 +32,6 @@ invariant-loop g l =
       terminal_told : (terminal_copro l.terminal_copro).told ≡ (terminal_copro l.fn.terminal_copro).told;
       tells : (seen l.out).tells ≡ (seen l.fn.out).tells;
       still : (seen l.out).faults ≡ (seen l.fn.out).faults;
+      answered : l.tally.answered ≤ l.counter;
+      refused : l.tally.refused ≤ l.counter;
     }
