@@ -17,8 +17,12 @@ use Rattle.eid_run.specs.Meetings.{Coprocessors, Meeting, MetWhole, inverted}
 use Rattle.eid_run.specs.Runs.{journal, outside, resting}
 use Rattle.eid_run.specs.Sessions.{DidPartOfSession}
 use Rattle.eid_run.specs.Talk.{HasSource}
+use Rattle.eid_run.specs.Honest.{HasSizes}
 use Rattle.eid_run.proofs.Meeting.{answers_from, asks_from}
-use Rattle.eid_terminal.specs.Plans.{PlainPlan}
+use Rattle.eid_run.proofs.Promising.{met_promised}
+use Rattle.eid_store.specs.Stands.{stands}
+use Rattle.eid_store.proofs.Laws.{complete}
+use Rattle.eid_terminal.specs.Plans.{IsFit, PlainPlan}
 use Rattle.eid.specs.declared.exit.Exit.{Exit}
 use Rattle.eid.specs.declared.exit.Exit.TheVariants.{Done, Usage, FileFault, NoMemory, BadImage, BadScript, BadConfig, SinkFault, BadAnswers}
 use Rattle.eid.specs.Commands.{Session}
@@ -81,12 +85,13 @@ broke_off image start s folder copros device cells before now error chip_has ter
     at run.NoMemory rose = inl end
 
 -- all was done
-pub all_done : (image : List ℕ) (start : ℕ) (s : Meeting) (old new : FolderSeen) (before now : SinkSeen) (new_cells : List ℕ) → MetWhole start s new_cells before now → length new_cells ≡ 65536 → (IsTrue old.tells → new.file image ≡ Some new_cells) → SameOthers image old new → SessionFinished image start s old new before now
-all_done image start s old new before now new_cells met long stored others =
+pub all_done : (image : List ℕ) (start : ℕ) (s : Meeting) (old new : FolderSeen) (before now : SinkSeen) (new_cells : List ℕ) → MetWhole start s new_cells before now → IsFit s.plan → HasSizes s.plan → length s.cells ≡ 65536 → stands s.cells ≡ Some s.opening → length new_cells ≡ 65536 → (IsTrue old.tells → new.file image ≡ Some new_cells) → SameOthers image old new → SessionFinished image start s old new before now
+all_done image start s old new before now new_cells met fit sizes size stood long stored others =
     let talk = met.did.conversed in record {
       new_cells = new_cells;
       met = met;
       only = talk.ran.only (model_answer start) met.chip_told met.steady;
+      promised = met_promised start s new_cells before now met fit sizes (complete s.cells s.opening size stood).valid;
       stored = stored;
       stands = subst (λ (o : Option FullRecord). MayHold (pending s.opening (journal talk.happened)) (kept s.opening (journal talk.happened)) o) (sym (record_long new_cells long)) talk.ran.cells;
       layout = talk.ran.layout;
@@ -111,6 +116,7 @@ finished_from image start s old middle new before now same f = record {
   new_cells = f.new_cells;
   met = f.met;
   only = f.only;
+  promised = f.promised;
   stored = λ told. f.stored (rw same.tells told);
   stands = f.stands;
   layout = f.layout;

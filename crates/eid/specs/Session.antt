@@ -1,13 +1,15 @@
 -- What the session of a terminal with the chip of an image does. This project's own.
 use Rattle.std.specs.Prelude.{◌≡◌, ℕ, IsTrue, List, Some, Ok, slice_index}
-use Rattle.eid_base.specs.Seen.{FolderSeen, SinkSeen, SameFiles, SameOthers, IsLeftBy}
+use Rattle.eid_base.specs.Seen.{FolderSeen, SinkSeen, Grew, SameFiles, SameOthers, IsLeftBy}
 use Rattle.eid_cells.specs.Device.{Device}
 use Rattle.eid_copro.specs.Model.{model_answer}
 use Rattle.eid_copro.specs.Told.{AnswersFrom}
 use Rattle.eid_model.specs.Ledger.{kept, pending, MayHold}
 use Rattle.eid_model.specs.Legal.{IsOnlyJournal}
 use Rattle.eid_model.specs.Moments.{asked}
+use Rattle.eid_run.specs.Honest.{IsHonest}
 use Rattle.eid_run.specs.Meetings.{Coprocessors, Meeting, MetWhole, inverted}
+use Rattle.eid_run.specs.Promised.{FoundPoints, promised_report}
 use Rattle.eid_run.specs.Runs.{journal, outside, resting}
 use Rattle.eid_run.specs.Sessions.{DidPartOfSession}
 use Rattle.eid.specs.Images.{record_of}
@@ -21,11 +23,14 @@ pub record IsMeeting (image terminal_name : List ℕ) (old : FolderSeen) (s : Me
   pub read : IsTrue old.tells → plan_in (old.file terminal_name) ≡ Ok s.plan
 
 -- All of it done: the image then has cells that stand for the record kept, of the same layout, and no other name changed.
--- No other journal without a cut is legal for this record, these commands, and the model's answers.
+-- No other journal without a cut is legal for this record, these commands, and the model's answers. Where the plan is honest
+-- and the coprocessors found points, the report is the promised one.
 pub record SessionFinished (image : List ℕ) (start : ℕ) (s : Meeting) (old new : FolderSeen) (before now : SinkSeen) : Type 0 where
   pub new_cells : List ℕ
   pub met : MetWhole start s new_cells before now
   pub only : IsOnlyJournal (model_answer start) s.opening (journal met.did.conversed.happened)
+  pub promised : (honest : IsHonest s.plan s.opening) → FoundPoints (journal met.did.conversed.happened) met.did.conversed.asks
+      → IsTrue before.tells → Grew before.written now.written (promised_report s.plan s.opening honest.chain)
   pub stored : IsTrue old.tells → new.file image ≡ Some new_cells
   pub stands : MayHold (pending s.opening (journal met.did.conversed.happened)) (kept s.opening (journal met.did.conversed.happened)) (record_of new_cells)
   pub layout : slice_index new_cells 0 ≡ slice_index s.cells 0

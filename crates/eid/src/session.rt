@@ -15,7 +15,7 @@ use crate::load::{load_image, load_plan};
 use eid_base::{Folder, Sink};
 use eid_cells::MemoryEeprom;
 use eid_copro::{Coprocessor, ModelCoprocessor};
-use eid_run::run_session;
+use eid_run::{law_has_sizes, run_session};
 use eid_terminal::Plan;
 use std::alloc::Global;
 
@@ -42,6 +42,7 @@ fn meet_and_store<C: Coprocessor, D: Coprocessor, F: Folder, K: Sink>(
         (K.seen out.new) result }
     ensures faults { NamesFaults (F.seen folder.old) (F.seen folder.new) (K.seen out.old) (K.seen out.new) result }
 {
+    law_has_sizes(&plan);
     let mut device = MemoryEeprom::new(cells);
     if let Err(error) = run_session(alloc, plan, &mut device, chip_copro, terminal_copro, out) {
         return Exit::of_run(error);

@@ -324,7 +324,7 @@ live_more : (ends : Bool) (rule : ℕ) (m : PlainMoment) (before : List PlainMom
 live_more true rule m before then_accepted then_known new is states = rw is refl
 live_more false rule m before then_accepted then_known new is states = rw is (sym states)
 
-left_more : (opening : FullRecord) (before : List PlainMoment) (ch : Option ChannelState) (bytes : List ℕ) (incoming : Incoming) (asks : List Ask) (finished : ℕ) (o : Outcome) (new : State)
+pub left_more : (opening : FullRecord) (before : List PlainMoment) (ch : Option ChannelState) (bytes : List ℕ) (incoming : Incoming) (asks : List Ask) (finished : ℕ) (o : Outcome) (new : State)
     → state_then (kept opening before).fields (answered ch bytes incoming asks finished o) (live before) (accepted opening before) (terminal opening before) ≡ new
     → state_due o.rule new ≡ state_of opening (answered ch bytes incoming asks finished o ∷ before)
 unfolding account

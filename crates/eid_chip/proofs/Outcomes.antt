@@ -102,14 +102,14 @@ known_so kept old c kind answers ends =
     ∙ ap (λ (b : Bool). at_request b (Some kind) kept old c answers) ends.goes_on
 
 -- the questions and the outcome are those of the kind
-kind_question : (kept : FullRecord) (old : State) (c : PlainCommand) (kind : Kind) (answers : List Answer) → Ends old c kind → refusal_by naming_rules (with_command kept old c answers) ≡ None → refusal_by request_rules (with_command kept old c answers) ≡ None
+pub kind_question : (kept : FullRecord) (old : State) (c : PlainCommand) (kind : Kind) (answers : List Answer) → Ends old c kind → refusal_by naming_rules (with_command kept old c answers) ≡ None → refusal_by request_rules (with_command kept old c answers) ≡ None
     → question (with_command kept old c answers) ≡ question_by kind_rules (known kind kept (unchained old) (request old.chaining c) answers)
 unfolding question
 kind_question kept old c kind answers ends names requests =
     ap (λ (f : Option RuleRow). if is_none f then question_of (with_command kept old c answers).kind (with_command kept old c answers) else None) (late_rules answer_rules kept old c answers names requests)
     ∙ ap (λ (s : Situation). question_by kind_rules s) (known_so kept old c kind answers ends)
 
-kind_outcome : (kept : FullRecord) (old : State) (c : PlainCommand) (kind : Kind) (answers : List Answer) → Ends old c kind → refusal_by naming_rules (with_command kept old c answers) ≡ None → refusal_by request_rules (with_command kept old c answers) ≡ None
+pub kind_outcome : (kept : FullRecord) (old : State) (c : PlainCommand) (kind : Kind) (answers : List Answer) → Ends old c kind → refusal_by naming_rules (with_command kept old c answers) ≡ None → refusal_by request_rules (with_command kept old c answers) ≡ None
     → outcome (with_command kept old c answers) ≡ outcome_of kind_rules (known kind kept (unchained old) (request old.chaining c) answers)
 unfolding outcome
 kind_outcome kept old c kind answers ends names requests =
@@ -117,7 +117,7 @@ kind_outcome kept old c kind answers ends names requests =
     ∙ ap (λ (s : Situation). outcome_of kind_rules s) (known_so kept old c kind answers ends)
 
 -- questions by two functions that agree
-asked_alike : (f g : List Answer → Option Question) → ((answers : List Answer) → f answers ≡ g answers) → (given : List Answer) (asks : List Ask) → AreAsked f given asks → AreAsked g given asks
+pub asked_alike : (f g : List Answer → Option Question) → ((answers : List Answer) → f answers ≡ g answers) → (given : List Answer) (asks : List Ask) → AreAsked f given asks → AreAsked g given asks
 asked_alike f g same given [] asked = sym (same given) ∙ asked
 asked_alike f g same given (ask ∷ later) asked =
     (sym (same given) ∙ asked.0, asked.1, asked_alike f g same (given ++ ask.answer ∷ []) later asked.2)
@@ -246,7 +246,7 @@ request_passes kept old c answers goes_on fits =
 -- ---- how a command ends that may commit
 
 -- the effects due are those of the kind
-kind_due : (kept : FullRecord) (old : State) (c : PlainCommand) (kind : Kind) (answers : List Answer) → Ends old c kind → refusal_by naming_rules (with_command kept old c answers) ≡ None → refusal_by request_rules (with_command kept old c answers) ≡ None
+pub kind_due : (kept : FullRecord) (old : State) (c : PlainCommand) (kind : Kind) (answers : List Answer) → Ends old c kind → refusal_by naming_rules (with_command kept old c answers) ≡ None → refusal_by request_rules (with_command kept old c answers) ≡ None
     → due (with_command kept old c answers) ≡ due_by kind_rules (known kind kept (unchained old) (request old.chaining c) answers)
 unfolding due
 kind_due kept old c kind answers ends names requests =

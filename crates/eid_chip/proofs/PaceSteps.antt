@@ -127,7 +127,7 @@ StartsWell : Password → PlainRecord → Bool → Type 0
 StartsWell password kept by_can =
     ((not (is_pin password) || kept.active) ≡ true) × ((not (is_pin password) || has_try kept) ≡ true) × ((not (is_pin password) || is_resumed kept by_can) ≡ true)
 
-three_hold : (a b c : Bool) → (if not a then Some active_rule else if not b then Some try_rule else if not c then Some resumed_rule else None) ≡ None → (a ≡ true) × (b ≡ true) × (c ≡ true)
+pub three_hold : (a b c : Bool) → (if not a then Some active_rule else if not b then Some try_rule else if not c then Some resumed_rule else None) ≡ None → (a ≡ true) × (b ≡ true) × (c ≡ true)
 three_hold false b c e = absurd (cc)
 three_hold true false c e = absurd (cc)
 three_hold true true false e = absurd (cc)

@@ -24,7 +24,7 @@ use Rattle.eid_model.specs.Ledger.{account, books, books_more, pending, kept, st
 use Rattle.eid_model.proofs.KeyBytes.{channel_bytes}
 
 -- lists that are equal with one more item are equal without it
-one_more : {A : Type 0} (xs ys : List A) (x y : A) → xs ++ x ∷ [] ≡ ys ++ y ∷ [] → (xs ≡ ys) × (x ≡ y)
+pub one_more : {A : Type 0} (xs ys : List A) (x y : A) → xs ++ x ∷ [] ≡ ys ++ y ∷ [] → (xs ≡ ys) × (x ≡ y)
 one_more [] [] x y e = (refl, (cc))
 one_more [] (b ∷ ys) x y e =
     let lens : length (x ∷ []) ≡ length (b ∷ (ys ++ y ∷ [])) = ap length e in
@@ -70,7 +70,7 @@ same_protected ch bytes (OfCommand c) MissingObjects k p q = absurd (not_missing
 same_protected ch bytes (OfCommand c) WrongObjects k p q = absurd (q.1 c p)
 same_protected ch bytes (OfCommand c) (OfCommand d) k p q = ap OfCommand (one_protected ch.keys (next_counter ch.counter) bytes c d k p q)
 
-same_incoming : (session : List PlainMoment) (o : Option ChannelState) (bytes : List ℕ) (one other : Incoming) → channel session ≡ o → IsReadAs o bytes one → IsReadAs o bytes other → one ≡ other
+pub same_incoming : (session : List PlainMoment) (o : Option ChannelState) (bytes : List ℕ) (one other : Incoming) → channel session ≡ o → IsReadAs o bytes one → IsReadAs o bytes other → one ≡ other
 same_incoming session None bytes one other is p q = same_plain bytes one other p q
 same_incoming session (Some ch) bytes one other is p q = same_protected ch bytes one other (channel_bytes session ch is) p q
 

@@ -3,10 +3,9 @@ use Rattle.std.proofs.Common.{◌≡◌, List, [], ◌∷◌, ◌++◌, length, 
 use Rattle.std.specs.Prelude.{option_map}
 use Rattle.std.specs.Option.{option_to_list}
 use Rattle.eid_copro.specs.declared.ask.Ask.{Ask}
-use Rattle.eid_terminal.specs.Courses.{Course, Asks, Sends, Passes, Gives, Stops, Faults, Ends, Reached, sent}
-use Rattle.eid_terminal.specs.Moves as moves
-use Rattle.eid_terminal.specs.Moves.{move_of}
+use Rattle.eid_terminal.specs.Courses.{Course, Asks, Sends, Passes, Gives, Stops, Faults, Ends, Reached}
 use Rattle.eid_run.specs.Conversations.{Exchange, IsAt, Talks, Told, reply_of}
+use Rattle.eid_run.specs.Talk.{IsDue}
 
 -- ---- one behind the other
 
@@ -56,19 +55,17 @@ talks_none (Faults step) at asks is = (is.0, refl, refl, is.3)
 talks_none Ends at asks is = (is.0, refl, refl, is.3)
 
 -- behind the reply to a command that was sent
-pub talks_one : (course at : Course) (asks : List Ask) (e : Exchange) → move_of course ≡ moves.Sends e.command → Reached course asks (e.reply ∷ []) 0 at → Talks course asks (e ∷ []) [] at
-talks_one (Asks question later) at asks e sends is = absurd (cc)
-talks_one (Sends channel command later) at asks e sends is =
-    let same : e.command ≡ sent channel command = cc in
-    (same, (is.0, (is.1.0, talks_none (later is.0) at asks is.1.1)))
-talks_one (Passes step later) at asks e sends is = absurd (cc)
-talks_one (Gives request reply later) at asks e sends is = absurd (cc)
-talks_one (Stops step status) at asks e sends is = absurd (cc)
-talks_one (Faults step) at asks e sends is = absurd (cc)
-talks_one Ends at asks e sends is = absurd (cc)
+pub talks_one : (course at : Course) (asks : List Ask) (e : Exchange) → IsDue course e.command → Reached course asks (e.reply ∷ []) 0 at → Talks course asks (e ∷ []) [] at
+talks_one (Asks question later) at asks e sends is = absurd sends
+talks_one (Sends channel command later) at asks e sends is = (sends, (is.0, (is.1.0, talks_none (later is.0) at asks is.1.1)))
+talks_one (Passes step later) at asks e sends is = absurd sends
+talks_one (Gives request reply later) at asks e sends is = absurd sends
+talks_one (Stops step status) at asks e sends is = absurd sends
+talks_one (Faults step) at asks e sends is = absurd sends
+talks_one Ends at asks e sends is = absurd sends
 
 -- the same where a reply may be due
-pub talks_turn : (course at : Course) (asks : List Ask) (due : Option Exchange) → (((e : Exchange) → due ≡ Some e → move_of course ≡ moves.Sends e.command))
+pub talks_turn : (course at : Course) (asks : List Ask) (due : Option Exchange) → (((e : Exchange) → due ≡ Some e → IsDue course e.command))
     → Reached course asks (option_to_list (option_map reply_of due)) 0 at → Talks course asks (option_to_list due) [] at
 talks_turn course at asks None sends is = talks_none course at asks is
 talks_turn course at asks (Some e) sends is = talks_one course at asks e (sends e refl) is

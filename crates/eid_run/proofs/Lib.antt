@@ -3,3 +3,16 @@ pub mod Conversing
 pub mod Talking
 pub mod Meeting
 pub mod Counting
+pub mod Turns
+pub mod Going
+pub mod Stepping
+pub mod Along
+pub mod Agreeing
+pub mod Given
+pub mod Hearing
+pub mod Paced
+pub mod Certified
+pub mod Authenticated
+pub mod Proven
+pub mod Requested
+pub mod Promising

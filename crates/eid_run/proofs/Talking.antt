@@ -6,6 +6,8 @@ use Rattle.std.specs.List.{count_by}
 use Rattle.std.proofs.lemmas.List.Sums.{fold-append}
 use Rattle.std.proofs.lemmas.Grind.{flat_map-append}
 use Rattle.std.proofs.lemmas.List.{length-map, map-append}
+use Rattle.std.specs.List.{All}
+use Rattle.std.proofs.lemmas.List.Elements.{All-cons, All-nil}
 use Rattle.eid_base.specs.Seen.{Grew, GrewByPart, SinkSeen}
 use Rattle.eid_cells.specs.Device.{Device}
 use Rattle.eid_chip.specs.Fits.{Fits, Scene, is_off, scene}
@@ -21,7 +23,7 @@ use Rattle.eid_terminal.specs.declared.action.Action.{Action}
 use Rattle.eid_terminal.specs.declared.action.Action.TheVariants as actions
 use Rattle.eid_terminal.specs.declared.plan.Request.{Request}
 use Rattle.arrayvec.specs.ArrayVec.{ArrayVec}
-use Rattle.eid_terminal.specs.Courses.{Course, Asks, Sends, Passes, Gives, Stops, Faults, Ends, Reached, sent}
+use Rattle.eid_terminal.specs.Courses.{Course, Asks, Sends, Passes, Gives, Stops, Faults, Ends, Reached, SendsBytes, sent}
 use Rattle.eid_terminal.specs.Moves.{Move, move_of}
 use Rattle.eid_terminal.specs.Moves as moves
 use Rattle.eid_terminal.specs.Plans.{IsFit, PlainPlan}
@@ -32,10 +34,10 @@ use Rattle.eid_run.specs.Conversations.{Exchange, IsEnd, Talks, Told, Passed, Re
 use Rattle.eid_run.specs.Lines.{DidLine, IsLine, IsRunSoFar, Keeps}
 use Rattle.eid_run.specs.Report.{report, stop_line, told_line, told_lines}
 use Rattle.eid_run.specs.Runs.{Did, LineEffect, Outside, journal, line_for}
-use Rattle.eid_run.specs.Sessions.{Conversed, DidPartOfSession, DidSession, command_line, replied, replies_in, replies_to, session_lines}
+use Rattle.eid_run.specs.Sessions.{AnswersWell, AreReplies, Conversed, DidPartOfSession, DidSession, command_line, replied, replies_in, replies_to, session_lines}
 use Rattle.eid_run.specs.Tallies.{CountedSession, IsTallyOf, is_answered, is_refused, no_results, tally_more, tally_reply}
 use Rattle.eid_run.specs.declared.tally.Tally.{Tally}
-use Rattle.eid_run.specs.Talk.{BrokeTurn, ChipDid, DidTurn, IsLeftAlone, IsTalkSoFar, NoTurn, PartOfTurn, Standing, turn_line, turns, standing, written_so_far}
+use Rattle.eid_run.specs.Talk.{BrokeTurn, ChipDid, DidTurn, IsDue, IsLeftAlone, IsTalkSoFar, NoTurn, PartOfTurn, Standing, turn_line, turns, standing, written_so_far}
 use Rattle.eid_run.specs.Sinks.{untold}
 use Rattle.eid_run.proofs.Conversing.{here, reached_of, talks_on, talks_turn}
 use Rattle.eid_run.proofs.Running.{ran_happened, ran_lines, ran_more}
@@ -82,25 +84,27 @@ turned plan opening start first old new taken so asked action room goes =
 
 -- the run, where the chip was left alone
 run_alone : (opening : FullRecord) (start old new : Scene) (log_0 log log_now : List Ask) (exchanges : List Exchange) (run : IsRunSoFar opening start old log_0 log (session_lines exchanges) untold untold)
-    → replies_in (journal run.happened) ≡ map reply_of exchanges → IsLeftAlone old new log log_now
-    → (now : IsRunSoFar opening start new log_0 log_now (session_lines (exchanges ++ [])) untold untold) × (replies_in (journal now.happened) ≡ map reply_of (exchanges ++ []))
+    → AreReplies run.happened exchanges → IsLeftAlone old new log log_now
+    → (now : IsRunSoFar opening start new log_0 log_now (session_lines (exchanges ++ [])) untold untold) × (AreReplies now.happened (exchanges ++ []))
 run_alone opening start old new log_0 log log_now exchanges run replies alone =
-    subst (λ (es : List Exchange). (now : IsRunSoFar opening start new log_0 log_now (session_lines es) untold untold) × (replies_in (journal now.happened) ≡ map reply_of es)) (sym (append-nil exchanges))
-    (subst (λ (s : Scene). (now : IsRunSoFar opening start s log_0 log_now (session_lines exchanges) untold untold) × (replies_in (journal now.happened) ≡ map reply_of exchanges)) (sym alone.0)
-    (subst (λ (l : List Ask). (now : IsRunSoFar opening start old log_0 l (session_lines exchanges) untold untold) × (replies_in (journal now.happened) ≡ map reply_of exchanges)) (sym alone.1) (run, replies)))
+    subst (λ (es : List Exchange). (now : IsRunSoFar opening start new log_0 log_now (session_lines es) untold untold) × (AreReplies now.happened es)) (sym (append-nil exchanges))
+    (subst (λ (s : Scene). (now : IsRunSoFar opening start s log_0 log_now (session_lines exchanges) untold untold) × (AreReplies now.happened exchanges)) (sym alone.0)
+    (subst (λ (l : List Ask). (now : IsRunSoFar opening start old log_0 l (session_lines exchanges) untold untold) × (AreReplies now.happened exchanges)) (sym alone.1) (run, replies)))
 
 -- and where it handled one command more
 run_one : (opening : FullRecord) (start old new : Scene) (log_0 log log_now : List Ask) (exchanges : List Exchange) (e : Exchange) (m : PlainMoment) (run : IsRunSoFar opening start old log_0 log (session_lines exchanges) untold untold)
-    → replies_in (journal run.happened) ≡ map reply_of exchanges → IsLine old new log log_now (ApduLine e.command) (Did m) → Keeps old new (ApduLine e.command) → e.reply ≡ replied m
-    → (now : IsRunSoFar opening start new log_0 log_now (session_lines (exchanges ++ e ∷ [])) untold untold) × (replies_in (journal now.happened) ≡ map reply_of (exchanges ++ e ∷ []))
-run_one opening start old new log_0 log log_now exchanges e m run replies made keeps reply =
+    → AreReplies run.happened exchanges → IsLine old new log log_now (ApduLine e.command) (Did m) → Keeps old new (ApduLine e.command) → e.reply ≡ replied m → AnswersWell m
+    → (now : IsRunSoFar opening start new log_0 log_now (session_lines (exchanges ++ e ∷ [])) untold untold) × (AreReplies now.happened (exchanges ++ e ∷ []))
+run_one opening start old new log_0 log log_now exchanges e m run replies made keeps reply well =
     let did : DidLine old new log log_now (ApduLine e.command) untold untold = record { happened = Did m; made = made; written = λ never. absurd (cc) } in
     let now = ran_more opening start old new log_0 log log_now (session_lines exchanges) (ApduLine e.command) untold untold untold refl run did keeps in
     let happened : now.happened ≡ Did m ∷ run.happened = ran_happened opening start old new log_0 log log_now (session_lines exchanges) (ApduLine e.command) untold untold untold refl run did keeps in
     let last : replies_to m.input (replied m) ≡ e.reply ∷ [] = received_reply m.input e.command (replied m) made.carried ∙ ap (λ (r : List ℕ). r ∷ []) (sym reply) in
-    let all : replies_in (journal now.happened) ≡ map reply_of (exchanges ++ e ∷ []) =
-    ap (λ (h : List LineEffect). replies_in (journal h)) happened ∙ ap (λ (l : List (List ℕ)). l ++ replies_to m.input (replied m)) replies ∙ ap (λ (l : List (List ℕ)). map reply_of exchanges ++ l) last ∙ sym (map-append reply_of exchanges (e ∷ [])) in
-    subst (λ (ls : List ScriptLine). (run_now : IsRunSoFar opening start new log_0 log_now ls untold untold) × (replies_in (journal run_now.happened) ≡ map reply_of (exchanges ++ e ∷ []))) (sym (lines_more exchanges e)) (now, all)
+    let same : replies_in (journal now.happened) ≡ map reply_of (exchanges ++ e ∷ []) =
+    ap (λ (h : List LineEffect). replies_in (journal h)) happened ∙ ap (λ (l : List (List ℕ)). l ++ replies_to m.input (replied m)) replies.same ∙ ap (λ (l : List (List ℕ)). map reply_of exchanges ++ l) last ∙ sym (map-append reply_of exchanges (e ∷ [])) in
+    let all : AreReplies now.happened (exchanges ++ e ∷ []) =
+    record { same = same; sendable = subst (λ (h : List LineEffect). All AnswersWell (journal h)) (sym happened) (All-cons AnswersWell m (journal run.happened) well replies.sendable) } in
+    subst (λ (ls : List ScriptLine). (run_now : IsRunSoFar opening start new log_0 log_now ls untold untold) × (AreReplies run_now.happened (exchanges ++ e ∷ []))) (sym (lines_more exchanges e)) (now, all)
 
 -- ---- the tally
 
@@ -154,7 +158,7 @@ some_same a b e = cc
 
 pub talk_more : (plan : PlainPlan) (opening : FullRecord) (start : Scene) (first old new : Standing) (taken : ℕ) → IsTalkSoFar plan opening start first old taken → old.terminal.ended ≡ false → old.sink.tells ≡ first.sink.tells
     → DidTurn plan.requests old new → IsTalkSoFar plan opening start first new (suc taken)
-talk_more plan opening start first old new taken so alive tells did = by did.goes.at did.goes.is did.goes.left all.talks (subst (λ (m : Move). ChipDid old.scene new.scene old.log new.log new.due m) did.goes.is did.chip) where
+talk_more plan opening start first old new taken so alive tells did = by did.goes.at did.goes.is did.goes.octets did.goes.left all.talks (subst (λ (m : Move). ChipDid old.scene new.scene old.log new.log new.due m) did.goes.is did.chip) where
   asks : List Ask
   asks = so.asks ++ did.goes.asks
 
@@ -216,18 +220,20 @@ talk_more plan opening start first old new taken so alive tells did = by did.goe
   ended_so at left talks line count alone end =
       quiet so.told (record { course = at; waits = false; ended = true }) left talks refl alone (tally_as count) (wrote (stop_line at) (told_lines plan so.told ++ stop_line at) line refl) (λ e. absurd (cc)) (λ e. end)
 
-  by : (at : Course) → move_seen did.action ≡ move_of at → new.terminal ≡ left_at at → Talks (course plan) asks exchanges so.told at → ChipDid old.scene new.scene old.log new.log new.due (move_of at) → IsTalkSoFar plan opening start first new (suc taken)
-  by (Asks question later) is left talks chip = absurd (never_asks did.action question is)
-  by (Sends channel command later) is left talks chip =
+  by : (at : Course) → move_seen did.action ≡ move_of at → SendsBytes at → new.terminal ≡ left_at at → Talks (course plan) asks exchanges so.told at → ChipDid old.scene new.scene old.log new.log new.due (move_of at) → IsTalkSoFar plan opening start first new (suc taken)
+  by (Asks question later) is octets left talks chip = absurd (never_asks did.action question is)
+  by (Sends channel command later) is octets left talks chip =
       let e : Exchange = record { command = sent channel command; reply = replied chip.moment } in
-      let ran = run_one opening start old.scene new.scene first.log old.log new.log exchanges e chip.moment so.run so.replies chip.made chip.keeps refl in
+      let ran = run_one opening start old.scene new.scene first.log old.log new.log exchanges e chip.moment so.run so.replies chip.made chip.keeps refl chip.sendable in
       record {
         asks = asks;
         exchanges = exchanges;
         told = so.told;
         pending = Some e;
         talks = subst (λ (t : TerminalView). Talks (course plan) asks exchanges so.told t.course) (sym left) talks;
-        sends = λ other same. let commands : e.command ≡ other.command = ap command_of (some_same e other same) in ap (λ (t : TerminalView). move_of t.course) left ∙ ap (λ (bytes : List ℕ). moves.Sends bytes) commands;
+        sends = λ other same.
+            let commands : e.command ≡ other.command = ap command_of (some_same e other same) in
+            subst (λ (t : TerminalView). IsDue t.course other.command) (sym left) (record { written = sym commands; octets = octets });
         due_is = chip.brought;
         waits = ap (λ (t : TerminalView). t.waits) left;
         logged = all.logged;
@@ -238,11 +244,11 @@ talk_more plan opening start first old new taken so alive tells did = by did.goe
         tallied = tally_as (count_at (Sends channel command later) is);
         over = λ ended. absurd (let no : new.terminal.ended ≡ false = ap (λ (t : TerminalView). t.ended) left in cc);
       }
-  by (Passes step later) is left talks chip = told_one (Passed step) (Passes step later) later left refl talks (refl, here later) (ap (turn_line plan.requests) is) (count_at (Passes step later) is) chip
-  by (Gives place reply later) is left talks chip = told_one (Result place reply) (Gives place reply later) later left refl talks (refl, here later) (ap (turn_line plan.requests) is) (count_at (Gives place reply later) is) chip
-  by (Stops step status) is left talks chip = ended_so (Stops step status) left talks (ap (turn_line plan.requests) is) (count_at (Stops step status) is) chip tt
-  by (Faults step) is left talks chip = ended_so (Faults step) left talks (ap (turn_line plan.requests) is) (count_at (Faults step) is) chip tt
-  by Ends is left talks chip = ended_so Ends left talks (ap (turn_line plan.requests) is) (count_at Ends is) chip tt
+  by (Passes step later) is octets left talks chip = told_one (Passed step) (Passes step later) later left refl talks (refl, here later) (ap (turn_line plan.requests) is) (count_at (Passes step later) is) chip
+  by (Gives place reply later) is octets left talks chip = told_one (Result place reply) (Gives place reply later) later left refl talks (refl, here later) (ap (turn_line plan.requests) is) (count_at (Gives place reply later) is) chip
+  by (Stops step status) is octets left talks chip = ended_so (Stops step status) left talks (ap (turn_line plan.requests) is) (count_at (Stops step status) is) chip tt
+  by (Faults step) is octets left talks chip = ended_so (Faults step) left talks (ap (turn_line plan.requests) is) (count_at (Faults step) is) chip tt
+  by Ends is octets left talks chip = ended_so Ends left talks (ap (turn_line plan.requests) is) (count_at Ends is) chip tt
 
 -- ---- where it begins
 
@@ -279,9 +285,12 @@ talk_begun plan opening start at first now input fits same dark made keeps termi
     let did : DidLine at now.scene first.log first.log OnLine untold untold = record { happened = Did (silent input); made = made; written = λ never. absurd (cc) } in
     let ran = ran_more opening start at now.scene first.log first.log first.log [] OnLine untold untold untold refl empty did keeps in
     let happened : ran.happened ≡ Did (silent input) ∷ [] = ran_happened opening start at now.scene first.log first.log first.log [] OnLine untold untold untold refl empty did keeps in
-    let replies : replies_in (journal ran.happened) ≡ [] = ap (λ (h : List LineEffect). replies_in (journal h)) happened ∙ powered_reply input [] made.carried in
-    let both : (run : IsRunSoFar opening start now.scene first.log now.log (session_lines []) untold untold) × (replies_in (journal run.happened) ≡ []) =
-    subst (λ (l : List Ask). (run : IsRunSoFar opening start now.scene first.log l (session_lines []) untold untold) × (replies_in (journal run.happened) ≡ [])) (sym log) (ran, replies) in
+    let replies : AreReplies ran.happened [] = record {
+      same = ap (λ (h : List LineEffect). replies_in (journal h)) happened ∙ powered_reply input [] made.carried;
+      sendable = subst (λ (h : List LineEffect). All AnswersWell (journal h)) (sym happened) (All-cons AnswersWell (silent input) [] tt (All-nil AnswersWell));
+    } in
+    let both : (run : IsRunSoFar opening start now.scene first.log now.log (session_lines []) untold untold) × AreReplies run.happened [] =
+    subst (λ (l : List Ask). (run : IsRunSoFar opening start now.scene first.log l (session_lines []) untold untold) × AreReplies run.happened []) (sym log) (ran, replies) in
     record {
       asks = [];
       exchanges = [];
@@ -308,7 +317,7 @@ talk_begun plan opening start at first now input fits same dark made keeps termi
 pub conversed : (plan : PlainPlan) (opening : FullRecord) (chip chip_now : ChipView) (old new : Outside) (terminal terminal_now : CoproSeen) (asks : List Ask) (exchanges : List Exchange) (told : List Told) (unheard : Option Exchange) (at : Course)
     → Talks (course plan) asks exchanges told at
     → (run : IsRunSoFar opening (scene chip old.device old.cells) (scene chip_now new.device new.cells) old.copro.log new.copro.log (session_lines (exchanges ++ option_to_list unheard)) untold untold)
-    → replies_in (journal run.happened) ≡ map reply_of (exchanges ++ option_to_list unheard) → new.copro.told ≡ old.copro.told → slice_index new.cells 0 ≡ slice_index old.cells 0
+    → AreReplies run.happened (exchanges ++ option_to_list unheard) → new.copro.told ≡ old.copro.told → slice_index new.cells 0 ≡ slice_index old.cells 0
     → terminal_now.log ≡ terminal.log ++ asks → terminal_now.told ≡ terminal.told → Conversed plan opening old new terminal terminal_now told at
 conversed plan opening chip chip_now old new terminal terminal_now asks exchanges told unheard at talks run replies chip_told layout logged same = record {
   asks = asks;
@@ -370,15 +379,15 @@ talk_broke plan opening chip chip_was chip_now old was new terminal terminal_was
   earlier telling = so.written telling ∙ ap (λ (b : Bool). old.sink.written ++ (told_lines plan so.told ++ (if b then stop_line was_at.course else []))) alive
 
   alone_run : (exchanges : List Exchange) → IsLeftAlone (scene chip_was was.device was.cells) (scene chip_now new.device new.cells) was.copro.log new.copro.log
-      → (run : IsRunSoFar opening start (scene chip_was was.device was.cells) old.copro.log was.copro.log (session_lines exchanges) untold untold) → replies_in (journal run.happened) ≡ map reply_of exchanges
-      → (now : IsRunSoFar opening start (scene chip_now new.device new.cells) old.copro.log new.copro.log (session_lines (exchanges ++ [])) untold untold) × (replies_in (journal now.happened) ≡ map reply_of (exchanges ++ []))
+      → (run : IsRunSoFar opening start (scene chip_was was.device was.cells) old.copro.log was.copro.log (session_lines exchanges) untold untold) → AreReplies run.happened exchanges
+      → (now : IsRunSoFar opening start (scene chip_now new.device new.cells) old.copro.log new.copro.log (session_lines (exchanges ++ [])) untold untold) × (AreReplies now.happened (exchanges ++ []))
   alone_run exchanges alone run replies = run_alone opening start (scene chip_was was.device was.cells) (scene chip_now new.device new.cells) old.copro.log was.copro.log new.copro.log exchanges run replies alone
 
   not_taken : NoTurn (standing (scene chip_was was.device was.cells) was.copro.log terminal_was was_at was_due was.sink was_tally) (standing (scene chip_now new.device new.cells) new.copro.log terminal_now now_at now_due new.sink now_tally) → DidPartOfSession plan opening old new terminal terminal_now
   not_taken none =
       let ran = alone_run (so.exchanges ++ option_to_list so.pending) none.chip so.run so.replies in
-      let both : (now : IsRunSoFar opening start (scene chip_now new.device new.cells) old.copro.log new.copro.log (session_lines (so.exchanges ++ option_to_list so.pending)) untold untold) × (replies_in (journal now.happened) ≡ map reply_of (so.exchanges ++ option_to_list so.pending)) =
-      subst (λ (es : List Exchange). (now : IsRunSoFar opening start (scene chip_now new.device new.cells) old.copro.log new.copro.log (session_lines es) untold untold) × (replies_in (journal now.happened) ≡ map reply_of es)) (append-nil (so.exchanges ++ option_to_list so.pending)) ran in
+      let both : (now : IsRunSoFar opening start (scene chip_now new.device new.cells) old.copro.log new.copro.log (session_lines (so.exchanges ++ option_to_list so.pending)) untold untold) × (AreReplies now.happened (so.exchanges ++ option_to_list so.pending)) =
+      subst (λ (es : List Exchange). (now : IsRunSoFar opening start (scene chip_now new.device new.cells) old.copro.log new.copro.log (session_lines es) untold untold) × (AreReplies now.happened es)) (append-nil (so.exchanges ++ option_to_list so.pending)) ran in
       record {
         told = so.told;
         at = was_at.course;
@@ -449,7 +458,7 @@ talk_untaken plan opening chip old terminal fits =
         ran = ran_lines opening chip chip old old [] untold untold run refl refl;
         undone = session_lines [];
         carried = refl;
-        replies = refl;
+        replies = record { same = refl; sendable = All-nil AnswersWell };
         logged = sym (append-nil terminal.log);
         same_told = refl;
       };

@@ -3,6 +3,9 @@ use Rattle.std.specs.Prelude.{◌≡◌, ℕ, List, [], ◌∷◌, Option}
 use Rattle.eid_apdu.specs.Answer.{PlainReply}
 use Rattle.eid_copro.specs.declared.ask.Ask.{Ask}
 use Rattle.eid_terminal.specs.declared.action.Step.{Step}
+use Rattle.eid_apdu.specs.Command.{PlainCommand}
+use Rattle.eid_sm.specs.Keys.{ChannelState}
+use Rattle.eid_sm.specs.Parts.{AreBytes}
 use Rattle.eid_terminal.specs.Courses.{Course, Asks, Sends, Passes, Gives, Stops, Faults, Ends, IsReading, sent}
 
 -- A command as it is sent, and what comes back.
@@ -14,6 +17,11 @@ pub record Exchange : Type 0 where
 pub data Told : Type 0 where
   Passed : Step → Told
   Result : ℕ → PlainReply → Told
+
+-- the bytes are the command as it is sent, whose body consists of bytes
+pub record IsWritten (channel : Option ChannelState) (command : PlainCommand) (bytes : List ℕ) : Type 0 where
+  pub written : bytes ≡ sent channel command
+  pub octets : AreBytes command.body
 
 -- one stands at the course itself: nothing passed
 abbrev pub IsAt : Course → List Ask → List Exchange → List Told → Course → Type 0
@@ -27,7 +35,7 @@ Talks (Asks question later) (ask ∷ asks) exchanges told at =
     (ask.question ≡ question) × Talks (later ask.answer) asks exchanges told at
 Talks (Sends channel command later) asks [] told at = IsAt (Sends channel command later) asks [] told at
 Talks (Sends channel command later) asks (e ∷ exchanges) told at =
-    (e.command ≡ sent channel command) × ((reading : Option PlainReply) × (IsReading channel e.reply reading × Talks (later reading) asks exchanges told at))
+    IsWritten channel command e.command × ((reading : Option PlainReply) × (IsReading channel e.reply reading × Talks (later reading) asks exchanges told at))
 Talks (Passes step later) asks exchanges [] at = IsAt (Passes step later) asks exchanges [] at
 Talks (Passes step later) asks exchanges (t ∷ told) at = (t ≡ Passed step) × Talks later asks exchanges told at
 Talks (Gives request reply later) asks exchanges [] at = IsAt (Gives request reply later) asks exchanges [] at

@@ -1,11 +1,14 @@
 -- What a session of a terminal with a chip does. This project's own.
-use Rattle.std.specs.Prelude.{◌≡◌, ℕ, List, [], ◌∷◌, ◌++◌, map, Option, Some, None, IsTrue}
+use Rattle.std.specs.Prelude.{◌≡◌, ℕ, List, [], ◌∷◌, ◌++◌, map, Option, Some, None, IfSome, IsTrue}
+use Rattle.std.specs.List.{All}
 use Rattle.std.specs.Option.{option_to_list}
+use Rattle.eid_apdu.specs.Answer.{PlainReply, IsReply}
 use Rattle.eid_base.specs.Seen.{Grew, GrewByPart}
 use Rattle.eid_copro.specs.Seen.{CoproSeen}
 use Rattle.eid_copro.specs.declared.ask.Ask.{Ask}
 use Rattle.eid_record.specs.Plain.{FullRecord}
 use Rattle.eid_model.specs.Moments.{Event, PoweredOn, PoweredOff, Received, PlainMoment}
+use Rattle.eid_sm.specs.Parts.{AreBytes}
 use Rattle.eid_script.specs.Scripts.{ScriptLine, OnLine, ApduLine}
 use Rattle.eid_terminal.specs.Courses.{Course}
 use Rattle.eid_terminal.specs.Plans.{PlainPlan}
@@ -40,6 +43,20 @@ command_line e = ApduLine (command_of e)
 abbrev pub session_lines : List Exchange → List ScriptLine
 session_lines exchanges = OnLine ∷ map command_line exchanges
 
+-- a reply that can be sent, protected too
+pub record CanBeSent (r : PlainReply) : Type 0 where
+  pub reply : IsReply r
+  pub octets : AreBytes r.content
+
+-- the answer of a moment, where there is one, can be sent
+abbrev pub AnswersWell : PlainMoment → Type 0
+AnswersWell m = IfSome m.answer CanBeSent
+
+-- the replies of these exchanges are what the chip sent, and each of its answers can be sent
+pub record AreReplies (happened : List LineEffect) (exchanges : List Exchange) : Type 0 where
+  pub same : replies_in (journal happened) ≡ map reply_of exchanges
+  pub sendable : All AnswersWell (journal happened)
+
 -- The terminal came along its course to that place by what it asked its coprocessor and what the chip replied, and told
 -- these things; the chip was given power and ran these commands, but for what is undone, and no others; each reply is what
 -- the chip sent. The last reply may be unheard.
@@ -53,7 +70,7 @@ pub record Conversed (plan : PlainPlan) (opening : FullRecord) (old new : Outsid
   pub ran : RanLines opening happened old new
   pub undone : List ScriptLine
   pub carried : lines_of happened ++ undone ≡ session_lines (exchanges ++ option_to_list unheard)
-  pub replies : replies_in (journal happened) ≡ map reply_of (exchanges ++ option_to_list unheard)
+  pub replies : AreReplies happened (exchanges ++ option_to_list unheard)
   pub logged : terminal_now.log ≡ terminal.log ++ asks
   pub same_told : terminal_now.told ≡ terminal.told
 

@@ -14,16 +14,17 @@ use Rattle.eid_record.specs.Plain.{FullRecord}
 use Rattle.eid_script.specs.Scripts.{ApduLine}
 use Rattle.eid_terminal.specs.declared.action.Action.{Action}
 use Rattle.eid_terminal.specs.declared.plan.Request.{Request}
-use Rattle.eid_terminal.specs.Moves.{Move, move_of}
+use Rattle.eid_terminal.specs.Courses.{Course, Asks, Sends, Passes, Gives, Stops, Faults, Ends}
+use Rattle.eid_terminal.specs.Moves.{Move}
 use Rattle.eid_terminal.specs.Moves as moves
 use Rattle.eid_terminal.specs.Plans.{PlainPlan}
 use Rattle.eid_terminal.specs.Terminals.{Goes, TerminalView, course, move_seen}
-use Rattle.eid_run.specs.Conversations.{Exchange, IsEnd, Told, Talks, reply_of}
+use Rattle.eid_run.specs.Conversations.{Exchange, IsEnd, IsWritten, Told, Talks, reply_of}
 use Rattle.eid_run.specs.Lines.{IsLine, IsRunSoFar, Keeps}
 use Rattle.eid_run.specs.Report.{asked_line, fault_line, passed_line, stop_line, stopped_line, told_lines}
 use Rattle.eid_run.specs.Runs.{Did, journal}
 use Rattle.eid_run.specs.Sinks.{untold}
-use Rattle.eid_run.specs.Sessions.{replied, replies_in, session_lines}
+use Rattle.eid_run.specs.Sessions.{AnswersWell, AreReplies, CanBeSent, replied, session_lines}
 use Rattle.eid_run.specs.Tallies.{IsTallyOf, tally_more}
 use Rattle.eid_run.specs.declared.tally.Tally.{Tally}
 use Rattle.eid_run.specs.declared.session.Due.{Due}
@@ -67,6 +68,7 @@ pub record ChipReplied (old new : Scene) (log log_now : List Ask) (bytes : List 
   pub made : IsLine old new log log_now (ApduLine bytes) (Did moment)
   pub keeps : Keeps old new (ApduLine bytes)
   pub brought : due ≡ Some (replied moment)
+  pub sendable : AnswersWell moment
 
 -- the chip was left alone
 abbrev pub IsLeftAlone : Scene → Scene → List Ask → List Ask → Type 0
@@ -137,6 +139,22 @@ pub record KeepsOn (old new : Standing) : Type 0 where
 abbrev pub turns : List Exchange → Option Exchange → List Told → ℕ
 turns exchanges pending told = length (exchanges ++ option_to_list pending) + length told
 
+-- these bytes were sent, and their reply is due
+abbrev pub IsDue : Course → List ℕ → Type 0
+IsDue (Asks question later) bytes = ⊥
+IsDue (Sends channel command later) bytes = IsWritten channel command bytes
+IsDue (Passes step later) bytes = ⊥
+IsDue (Gives request reply later) bytes = ⊥
+IsDue (Stops step status) bytes = ⊥
+IsDue (Faults step) bytes = ⊥
+IsDue Ends bytes = ⊥
+
+-- the answer that came of bytes, where there is one, can be sent
+abbrev pub CameWell : Came → Type 0
+CameWell Silence = Unit {0}
+CameWell (Answer plain finished rule reply sent) = CanBeSent reply
+CameWell (Loss plain finished) = Unit {0}
+
 -- from where it began to where it stands
 pub record IsTalkSoFar (plan : PlainPlan) (opening : FullRecord) (start : Scene) (first now : Standing) (taken : ℕ) : Type 0 where
   pub asks : List Ask
@@ -144,12 +162,12 @@ pub record IsTalkSoFar (plan : PlainPlan) (opening : FullRecord) (start : Scene)
   pub told : List Told
   pub pending : Option Exchange
   pub talks : Talks (course plan) asks exchanges told now.terminal.course
-  pub sends : (e : Exchange) → pending ≡ Some e → move_of now.terminal.course ≡ moves.Sends e.command
+  pub sends : (e : Exchange) → pending ≡ Some e → IsDue now.terminal.course e.command
   pub due_is : now.due ≡ option_map reply_of pending
   pub waits : now.terminal.waits ≡ is_some pending
   pub logged : now.copro.log ≡ first.copro.log ++ asks
   pub run : IsRunSoFar opening start now.scene first.log now.log (session_lines (exchanges ++ option_to_list pending)) untold untold
-  pub replies : replies_in (journal run.happened) ≡ map reply_of (exchanges ++ option_to_list pending)
+  pub replies : AreReplies run.happened (exchanges ++ option_to_list pending)
   pub written : IsTrue first.sink.tells → Grew first.sink.written now.sink.written (written_so_far plan told now.terminal)
   pub counted : now.terminal.ended ≡ false → taken ≡ turns exchanges pending told
   pub tallied : IsTallyOf told now.tally

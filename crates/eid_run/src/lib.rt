@@ -2,6 +2,7 @@
 #![tactic(auto)]
 
 mod big;
+mod law;
 mod quiet;
 mod report;
 mod run;
@@ -9,5 +10,6 @@ mod session;
 mod tally;
 
 pub use big::big_workload;
+pub use law::law_has_sizes;
 pub use run::run_script;
 pub use session::run_session;

@@ -7,15 +7,17 @@ ghost use Rattle.eid_store.specs.Stands.{stands};
 ghost use Rattle.eid_model.specs.Legal as model;
 ghost use Rattle.eid_model.specs.Trace as trace;
 ghost use Rattle.eid_model.specs.View as view;
+ghost use Rattle.eid_apdu.specs.Answer.{plain_reply};
 ghost use Rattle.eid_apdu.specs.Command.{plain_command};
 ghost use Rattle.eid_sm.specs.Plain.{plain_of};
 ghost use Rattle.eid_chip.specs.Fits.{IsSound, scene, found, came_in, moment_of};
 ghost use Rattle.eid_script.specs.Scripts.{plain_line, OnLine, OffLine, ApduLine, CutLine};
 ghost use Rattle.eid_run.specs.Runs.{outside, Did, Planned, DidLines, DidSomeLines};
 ghost use Rattle.eid_run.specs.Lines.{Keeps, IsLine, DidLine, BrokeOffLine};
+ghost use Rattle.eid_run.specs.Sessions.{AnswersWell, CanBeSent};
 ghost use Rattle.eid_run.specs.Sinks.{TellsFault};
 
-use eid_apdu::Command;
+use eid_apdu::{Command, Reply};
 use eid_base::{IoError, NoMemory, Rule, RunError, Sink};
 use eid_cells::{Eeprom, Tear};
 use eid_chip::{Chip, Exchange, HandledIn};
@@ -159,6 +161,19 @@ fn asks_since<C: Coprocessor>(copro: &C, before: usize) -> &[Ask]
     &copro.log()[before..]
 }
 
+/// What the types tell of the parts of a reply, for the proof: it can be sent.
+fn know_parts(content: &[u8], status: u16)
+    requires { length content.now ≤ 2100 }
+    ensures { CanBeSent (record { content = content.now; status = status }) }
+{}
+
+/// What the types tell of a reply, for the proof: it can be sent.
+fn know_sendable(reply: &Reply)
+    ensures { CanBeSent (plain_reply reply.now) }
+{
+    know_parts(reply.content.as_slice(), reply.status.0);
+}
+
 /// Hands the bytes of a command to the chip, with room for its questions.
 pub fn handle<E: Eeprom, C: Coprocessor>(
     chip: &mut Chip,
@@ -171,6 +186,8 @@ pub fn handle<E: Eeprom, C: Coprocessor>(
     ensures made { IfOk result (λ came. IsLine (scene chip.old (E.device cells.old) (E.cells cells.old))
         (scene chip.new (E.device cells.new) (E.cells cells.new)) (C.seen copro.old).log (C.seen copro.new).log (ApduLine bytes.now)
         (Did (moment_of bytes.now (drop (length (C.seen copro.old).log) (C.seen copro.new).log) (came_in exchange.new came)))) }
+    ensures sendable { IfOk result (λ came. AnswersWell
+        (moment_of bytes.now (drop (length (C.seen copro.old).log) (C.seen copro.new).log) (came_in exchange.new came))) }
     ensures unmade { OnErr result ((scene chip.new (E.device cells.new) (E.cells cells.new)
         ≡ scene chip.old (E.device cells.old) (E.cells cells.old)) × ((C.seen copro.new).log ≡ (C.seen copro.old).log)) }
     ensures keeps { Keeps (scene chip.old (E.device cells.old) (E.cells cells.old))
@@ -180,7 +197,9 @@ pub fn handle<E: Eeprom, C: Coprocessor>(
     if copro.make_room(QUESTIONS).is_err() {
         return Err(NoMemory);
     }
-    Ok(chip.handle_in(bytes, cells, copro, exchange))
+    let came = chip.handle_in(bytes, cells, copro, exchange);
+    know_sendable(&exchange.reply);
+    Ok(came)
 }
 
 /// Hands the bytes of a command to the chip, with room for its questions, and writes their moment.

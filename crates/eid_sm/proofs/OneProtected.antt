@@ -28,7 +28,7 @@ use Rattle.eid_sm.proofs.Opening.{padded_blocks}
 -- ---- one plain text for a cryptogram
 
 -- encryption under a key of bytes is undone
-pair_of_bytes : (key : List ℕ) → AreBytes key → IsPair key
+pub pair_of_bytes : (key : List ℕ) → AreBytes key → IsPair key
 unfolding cipher inv_cipher
 pair_of_bytes key octets =
     let bytes : (i : ℕ) → slice_index (key_expansion key) i < 256 = key_expansion-bytes key octets in record {

@@ -12,7 +12,7 @@ use Rattle.eid_terminal.specs.declared.state.State.{State}
 use Rattle.eid_terminal.specs.declared.state.State.TheVariants as states
 use Rattle.eid_terminal.specs.declared.state.Turn.{Turn}
 use Rattle.eid_terminal.specs.declared.state.Waiting.{Waiting}
-use Rattle.eid_terminal.specs.Courses.{Course, IsHere, Reached, Asks, Sends, Passes, Gives, Stops, Faults, Ends}
+use Rattle.eid_terminal.specs.Courses.{Course, IsHere, Reached, Asks, Sends, Passes, Gives, Stops, Faults, Ends, SendsBytes}
 use Rattle.eid_terminal.specs.Moves.{Move, move_of}
 use Rattle.eid_terminal.specs.Plans.{PlainPlan}
 use Rattle.eid_terminal.specs.Terminals.{Goes, TerminalView, count_of, course, is_end, is_sent, left_at, move_seen, tells_fault}
@@ -85,14 +85,15 @@ left_behind c asks replies given at h =
 
 -- what a turn promises
 pub goes : (before after : CoproSeen) (old new : TerminalView) (reply : Option (List ℕ)) (move : Move) (asks : List Ask) (at : Course)
-    → WereAsked before after asks → Reached old.course asks (option_to_list reply) 0 at → new ≡ left_at at → move ≡ move_of at
+    → WereAsked before after asks → Reached old.course asks (option_to_list reply) 0 at → new ≡ left_at at → move ≡ move_of at → SendsBytes at
     → (tells_fault move ≡ true → Rose before.faults after.faults) → Goes before after old new reply move
-goes before after old new reply move asks at asked reached left is fault = record {
+goes before after old new reply move asks at asked reached left is octets fault = record {
   asks = asks;
   were_asked = asked;
   at = at;
   reached = reached;
   is = is;
+  octets = octets;
   left = left;
   goes_on = λ plan past heard given stands.
       let there : Reached (course plan) (past ++ asks) (heard ++ option_to_list reply) given at =
@@ -123,7 +124,7 @@ ready_goes before after plan state ready reply turn is due comes =
     subst (λ (s : State). Goes before after (state_view plan s) (state_view plan turn.state) (option_copied reply) (move_seen turn.action)) (sym is)
     (subst (λ (r : Option (List ℕ)). Goes before after (state_view plan (states.Ready ready)) (state_view plan turn.state) r (move_seen turn.action)) (sym none)
     (goes before after (state_view plan (states.Ready ready)) (state_view plan turn.state) None (move_seen turn.action) comes.asks comes.at
-    comes.were_asked comes.reached comes.did.left comes.did.move comes.fault))
+    comes.were_asked comes.reached comes.did.left comes.did.move comes.did.octets comes.fault))
 
 pub waiting_goes : (before after : CoproSeen) (plan : PlainPlan) (state : State) (waiting : Waiting) (reply : Option (Bor (List ℕ))) (bytes : Bor (List ℕ)) (turn : Turn)
     → state ≡ states.Waiting waiting → reply ≡ Some bytes → Heard before after plan waiting bytes.now turn
@@ -132,4 +133,4 @@ waiting_goes before after plan state waiting reply bytes turn is there heard =
     subst (λ (s : State). Goes before after (state_view plan s) (state_view plan turn.state) (option_copied reply) (move_seen turn.action)) (sym is)
     (subst (λ (r : Option (Bor (List ℕ))). Goes before after (state_view plan (states.Waiting waiting)) (state_view plan turn.state) (option_copied r) (move_seen turn.action)) (sym there)
     (goes before after (state_view plan (states.Waiting waiting)) (state_view plan turn.state) (Some bytes.now) (move_seen turn.action) heard.comes.asks heard.comes.at
-    heard.comes.were_asked (heard.reading, (heard.reads, heard.comes.reached)) heard.comes.did.left heard.comes.did.move heard.comes.fault))
+    heard.comes.were_asked (heard.reading, (heard.reads, heard.comes.reached)) heard.comes.did.left heard.comes.did.move heard.comes.did.octets heard.comes.fault))

@@ -8,6 +8,7 @@ use Rattle.eid_copro.specs.declared.ask.Question.{Question}
 use Rattle.eid_copro.specs.declared.ask.Answer.{Answer}
 use Rattle.eid_sm.specs.Commands.{written_command}
 use Rattle.eid_sm.specs.Keys.{ChannelState, next_counter}
+use Rattle.eid_sm.specs.Parts.{AreBytes}
 use Rattle.eid_sm.specs.Replies.{IsSealed}
 use Rattle.eid_terminal.specs.declared.action.Step.{Step}
 
@@ -32,6 +33,16 @@ pub data Course : Type 0 where
 abbrev pub sent : Option ChannelState → PlainCommand → List ℕ
 sent None command = written command
 sent (Some channel) command = written (written_command channel.keys channel.counter command)
+
+-- the body of the command that comes at a course, if one does, consists of bytes
+abbrev pub SendsBytes : Course → Type 0
+SendsBytes (Asks question later) = Unit {0}
+SendsBytes (Sends channel command later) = AreBytes command.body
+SendsBytes (Passes step later) = Unit {0}
+SendsBytes (Gives request reply later) = Unit {0}
+SendsBytes (Stops step status) = Unit {0}
+SendsBytes (Faults step) = Unit {0}
+SendsBytes Ends = Unit {0}
 
 -- the bytes are the reply to the last command, without a channel or in one
 abbrev pub IsReplyIn : Option ChannelState → List ℕ → PlainReply → Type 0

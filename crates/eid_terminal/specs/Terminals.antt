@@ -12,7 +12,7 @@ use Rattle.eid_terminal.specs.declared.action.Action.{Action}
 use Rattle.eid_terminal.specs.declared.action.Action.TheVariants as actions
 use Rattle.eid_terminal.specs.Authentication.{imports}
 use Rattle.eid_terminal.specs.Commands.{PlainTerms}
-use Rattle.eid_terminal.specs.Courses.{Course, Reached, Asks, Sends, Passes, Gives, Stops, Faults, Ends}
+use Rattle.eid_terminal.specs.Courses.{Course, Reached, SendsBytes, Asks, Sends, Passes, Gives, Stops, Faults, Ends}
 use Rattle.eid_terminal.specs.Moves.{Move, move_of}
 use Rattle.eid_terminal.specs.Moves as moves
 use Rattle.eid_terminal.specs.Pace.{pace}
@@ -144,6 +144,7 @@ pub record Goes (before after : CoproSeen) (old new : TerminalView) (reply : Opt
   pub at : Course
   pub reached : Reached old.course asks (option_to_list reply) 0 at
   pub is : move ≡ move_of at
+  pub octets : SendsBytes at
   pub left : new ≡ left_at at
   pub goes_on : GoesOn old new asks (option_to_list reply) move
   pub waits : new.waits ≡ is_sent move

@@ -35,7 +35,7 @@ use Rattle.eid_terminal.specs.declared.state.Turn.{Turn}
 use Rattle.eid_terminal.specs.declared.state.Waiting.{Waiting}
 use Rattle.eid_terminal.specs.Authentication.{after_challenge, after_proof, authenticate_chip, imports, issuer_of, last_holder, select}
 use Rattle.eid_terminal.specs.Commands.{PlainTerms, agree, announce, authenticate, auxiliary, external_authenticate, get_challenge, get_nonce, identify, import_certificate, map_nonce, prove, select_application, select_chip_authentication, select_key, select_pace}
-use Rattle.eid_terminal.specs.Courses.{Course, IsReading, Reached, Passes, Stops, Faults, Ends}
+use Rattle.eid_terminal.specs.Courses.{Course, IsReading, Reached, Passes, Stops, Faults, Ends, SendsBytes}
 use Rattle.eid_terminal.specs.Exchanges.{awaiting, by_reading, counted, exchange, expecting}
 use Rattle.eid_terminal.specs.Moves.{move_of}
 use Rattle.eid_terminal.specs.Pace.{Opened, after_agreement, after_mapping, after_nonce, after_selection, after_token, token_for}
@@ -192,6 +192,7 @@ IsSound plan (states.Ended ending) = Unit {0}
 pub record Did (plan : PlainPlan) (turn : Turn) (at : Course) : Type 0 where
   pub left : state_view plan turn.state ≡ left_at at
   pub move : move_seen turn.action ≡ move_of at
+  pub octets : SendsBytes at
   pub sound : IsSound plan turn.state
 
 -- it put questions on the way from one course to another, and did what comes there

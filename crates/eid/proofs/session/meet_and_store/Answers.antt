@@ -34,7 +34,7 @@ returns-in-Ok-clause-ends g c = λ start opening chip_has terminal_has stood.
     let chip_keeps = g.met.C.Coprocessor.keeps_to_told c.run_session.new.chip_copro in
     let terminal_keeps = g.met.D.Coprocessor.keeps_to_told c.run_session.new.terminal_copro in
     let stored = rw c.cells.ensures at c.in-Ok.ensures.stored in
-    all_done c.args.image.now start s _ _ _ _ _ (met_whole start s copros _ _ _ _ chip_has terminal_has c.requires.chip_log c.requires.terminal_log chip_keeps terminal_keeps (did opening stood) c.run_session.ensures.sink.tells) c.run_session.new.cells.count stored c.write.ensures.others
+    all_done c.args.image.now start s _ _ _ _ _ (met_whole start s copros _ _ _ _ chip_has terminal_has c.requires.chip_log c.requires.terminal_log chip_keeps terminal_keeps (did opening stood) c.run_session.ensures.sink.tells) c.requires.fit c.law_has_sizes.ensures c.requires.size stood c.run_session.new.cells.count stored c.write.ensures.others
 
 pub returns-clause-ends : goal.returns-clause-ends
 returns-clause-ends g c = λ start opening chip_has terminal_has stood.

@@ -12,7 +12,7 @@ pub returns-in_default : goal.returns-in_default
 returns-in_default c =
     let plan = plan_view c.args.plan.now in
     did_at plan _ _ _ (ap (λ left. requests plan c.args.place left c.args.channel) (from_behind plan.requests c.args.place (sym c.in_default.ensures)) ∙ none_left plan c.args.place c.args.channel)
-    (record { left = refl; move = refl; sound = tt })
+    (record { left = refl; move = refl; octets = tt; sound = tt })
 
 pub read-requires : goal.read-requires
 read-requires c =
