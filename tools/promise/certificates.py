@@ -63,7 +63,8 @@ def read_certificate(data: bytes) -> Certificate:
 
 def sector_hash(point: bytes) -> bytes:
     """The hash by which a certificate names the key of a sector: that of the whole public key."""
-    return hashlib.sha256(tlv.put(0x7F49, tlv.put(0x06, tables.RESTRICTED_IDENTIFICATION), tlv.put(0x86, point))).digest()
+    key = tlv.put(0x7F49, tlv.put(0x06, tables.RESTRICTED_IDENTIFICATION), tlv.put(0x86, point))
+    return hashlib.sha256(key).digest()
 
 
 def extension(sectors: Sequence[Optional[bytes]]) -> bytes:

@@ -1,7 +1,7 @@
 """What a chip keeps, as far as a promise depends on it: from its configuration, or from the cells of an image."""
 
 from dataclasses import dataclass
-from typing import Any, Dict, NamedTuple, Optional
+from typing import Any, Dict, Iterable, Iterator, NamedTuple, Optional
 
 from telling import images
 
@@ -65,23 +65,28 @@ def record_of_configuration(table: Dict[str, Any]) -> Record:
     )
 
 
-def party_of_record(record: bytes, place: int, name: bytes) -> Party:
-    template, key = record[place + TEMPLATE : place + KEY], record[place + KEY : place + KEY + 65]
-    return Party(name, template, key)
+def party_of_record(record: bytes, place: int, name: Optional[bytes]) -> Optional[Party]:
+    if name is None:
+        return None
+    return Party(name, record[place + TEMPLATE : place + KEY], record[place + KEY : place + KEY + 65])
+
+
+def files_of_record(record: bytes, lengths: Iterable[Optional[int]]) -> Iterator[Optional[bytes]]:
+    """The files, which stand one behind the other; None of an absent one."""
+    at = FILES
+    for size in lengths:
+        yield None if size is None else record[at : at + size]
+        at += size or 0
 
 
 def record_of_image(cells: bytes) -> Record:
     """The record that the cells of an image stand for."""
-    slot, told = (lambda image: (image.slot, image.record))(images.read_image(cells))
-    record = cells[images.RECORDS[slot] :][: images.ROOM]
-    files, at = [], FILES
-    for size in told.lengths:
-        files.append(None if size is None else record[at : at + size])
-        at += size or 0
-    current, previous = (
-        party_of_record(record, place, name) if name is not None else None
-        for place, name in zip(TRUST_POINTS, (told.current, told.previous))
-    )
+    image = images.read_image(cells)
+    told, record = image.record, cells[images.RECORDS[image.slot] :][: images.ROOM]
+    names = (told.current, told.previous)
+    current, previous = (party_of_record(record, place, name) for place, name in zip(TRUST_POINTS, names))
+    ca_secret, ri_secret = (record[place : place + 32] for place in SECRETS)
+    files = list(files_of_record(record, told.lengths))
     return Record(
         number=told.number,
         tries=told.tries,
@@ -90,7 +95,7 @@ def record_of_image(cells: bytes) -> Record:
         date=told.date,
         current=current,
         previous=previous,
-        ca_secret=record[SECRETS[0] : SECRETS[0] + 32],
-        ri_secret=record[SECRETS[1] : SECRETS[1] + 32],
-        groups={n: files[n + FILES_BEFORE_GROUPS - 1] for n in GROUPS if files[n + FILES_BEFORE_GROUPS - 1] is not None},
+        ca_secret=ca_secret,
+        ri_secret=ri_secret,
+        groups={n: content for n, content in zip(GROUPS, files[FILES_BEFORE_GROUPS:]) if content is not None},
     )
