@@ -11,7 +11,7 @@ import tempfile
 from telling.keys import first_bad_key, kit_keys, make_keys, plan_keys
 from telling.texts import answer_defect, first_defect, script_defect
 from telling.why import expected_reason, reason_of
-from tests.tell import TOP, begins, holds, same
+from tests.looking import TOP, begins, holds, same
 
 CHIP = (TOP / "examples/make-an-image/chip.toml").read_text()
 KIT = (TOP / "examples/two-certificates/terminal.toml").read_text()
