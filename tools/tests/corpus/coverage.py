@@ -129,7 +129,8 @@ def test_lines_of_reports():
 def anchors(text):
     """The names of the headings: letters and digits of lower case, with hyphens for spaces."""
     headings = re.findall(r"^#+ (.*)$", text.lower(), re.MULTILINE)
-    return {"".join(letter for letter in heading if letter.isalnum() or letter in " -").replace(" ", "-") for heading in headings}
+    kept = ("".join(letter for letter in heading if letter.isalnum() or letter in " -") for heading in headings)
+    return {heading.replace(" ", "-") for heading in kept}
 
 
 def test_links_of_the_index():
