@@ -5,7 +5,8 @@ import pathlib
 from dataclasses import dataclass, field
 from typing import Dict, Iterator, List, Tuple
 
-from corpus.reading import case_folders, read_case, steps_of
+from corpus.reading import BadCase, case_folders, read_case, steps_of
+from telling import Refused
 from telling.course import Course
 from telling.kinds import kind_of
 from telling.trace import read_trace
@@ -90,5 +91,8 @@ def read_corpus(cases: pathlib.Path) -> Corpus:
     """What the cases of this folder meet."""
     corpus = Corpus()
     for folder in case_folders(cases):
-        corpus.add_case(folder)
+        try:
+            corpus.add_case(folder)
+        except (BadCase, Refused) as error:
+            raise BadCase(f"{folder.name}: {error}") from None
     return corpus
