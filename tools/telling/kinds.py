@@ -8,9 +8,10 @@ from telling.commands import CHAINING, NAMES, PROPRIETARY, Command
 from telling.course import Course
 from telling.trace import Moment
 
-# The steps whose header is GENERAL AUTHENTICATE: the run alone tells which of them one is. Three of them have class 10.
-CHAINED_STEPS = commands.RUNS[0][1:4]
-STEPS = (*commands.RUNS[0][1:], commands.AUTHENTICATE_CHIP, commands.IDENTIFY)
+# The steps whose header is GENERAL AUTHENTICATE: the run alone tells which of them one is. The first three have class 10.
+FIRST, MAP, AGREE, TOKEN = commands.PACE_RUN[1:]
+STEPS = (FIRST, MAP, AGREE, TOKEN, commands.AUTHENTICATE_CHIP, commands.IDENTIFY)
+CHAINED_STEPS = (FIRST, MAP, AGREE)
 
 SELECT_APPLICATION, SELECT_MASTER_FILE, SELECT_FILE = (NAMES[0xA4, p1p2] for p1p2 in (0x040C, 0x000C, 0x020C))
 NEW_PIN, UNBLOCK, NEW_CAN = (NAMES[0x2C, p1p2] for p1p2 in (0x0203, 0x0303, 0x0202))
@@ -87,21 +88,21 @@ def kind_named(request: Command) -> str:
 # ---- the kinds that a rule concerns
 
 ALL = (*KINDS, *WITHOUT_KIND)
-# What takes a right: a bit of the template, but for the comparison of the validity.
-RIGHTFUL = (commands.SELECT_IDENTIFICATION, commands.COMPARE, commands.UPDATE, commands.READ, NEW_CAN, ACTIVATE, DEACTIVATE)
-OF_APPLICATION = RIGHTFUL[:4]
+# What the application has to be selected for; and what takes a right, which is a bit of the template but for the comparison of
+# the validity.
+OF_APPLICATION = (commands.SELECT_IDENTIFICATION, commands.COMPARE, commands.UPDATE, commands.READ)
+RIGHTFUL = (*OF_APPLICATION, NEW_CAN, ACTIVATE, DEACTIVATE)
 OF_CHAIN = (commands.SELECT_KEY, commands.ANNOUNCE)
 OF_FILE = (commands.READ, commands.UPDATE)
-FIRST, MAP, AGREE, TOKEN = STEPS[:4]
 COMMITTING = (TOKEN, commands.IMPORT, commands.UPDATE, NEW_PIN, UNBLOCK, NEW_CAN, ACTIVATE, DEACTIVATE)
-BEHIND_A_FRAGMENT = tuple(kind for kind in ALL if kind != FRAGMENT)
+WHOLE = tuple(kind for kind in ALL if kind != FRAGMENT)
 
 CONCERNED: Dict[int, FrozenSet[str]] = {
     rule: frozenset(concerned)
     for rule, concerned in {
         **{rule: ALL for rule in range(1, 9)},
         9: (*STEPS, OUT_OF_TURN, commands.IMPORT, commands.CHALLENGE, commands.PROVE),
-        10: BEHIND_A_FRAGMENT,
+        10: WHOLE,
         11: (commands.SELECT_PACE,),
         12: OF_FILE,
         13: (SELECT_APPLICATION, SELECT_FILE, *OF_FILE),
@@ -125,7 +126,7 @@ CONCERNED: Dict[int, FrozenSet[str]] = {
         40: (commands.IDENTIFY,),
         41: (commands.AUTHENTICATE_CHIP,),
         **{rule: (commands.IMPORT,) for rule in (42, 43, 44, 45)},
-        50: BEHIND_A_FRAGMENT,
+        50: WHOLE,
         51: (AGREE,),
         52: (MAP, AGREE, commands.AUTHENTICATE_CHIP, commands.IDENTIFY),
         53: (commands.IMPORT, commands.PROVE),
@@ -134,7 +135,7 @@ CONCERNED: Dict[int, FrozenSet[str]] = {
     }.items()
 }
 
-# ---- the statuses of a command that is carried out, and of a refusal
+# ---- the statuses of a command that is carried out
 
 STATUSES: Dict[str, Tuple[int, ...]] = {
     **{kind: (0x9000,) for kind in (*KINDS, FRAGMENT)},

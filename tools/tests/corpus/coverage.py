@@ -13,7 +13,7 @@ from telling import commands, kinds
 from tests.looking import TOP, holds, same
 
 CASES = TOP / "tests"
-THIRD = kinds.STEPS[2]
+THIRD = kinds.AGREE
 
 
 @functools.lru_cache(maxsize=None)
