@@ -143,8 +143,11 @@ SELECT_IDENTIFICATION = "MSE:Set AT for restricted identification"
 SELECT_PACE = "MSE:Set AT for PACE"
 ANNOUNCE = "MSE:Set AT for terminal authentication"
 SELECT_KEY = "MSE:Set DST"
+SELECT_PROTOCOL = "MSE:Set AT for internal authentication"
 IMPORT = "PSO:Verify Certificate"
+CHALLENGE, PROVE = "GET CHALLENGE", "EXTERNAL AUTHENTICATE"
 READ, UPDATE = "READ BINARY", "UPDATE BINARY"
+COMPARE = "VERIFY of auxiliary data"
 NAMES = {
     (0xA4, 0x040C): "SELECT of an application",
     (0xA4, 0x000C): "SELECT of the master file",
@@ -153,15 +156,25 @@ NAMES = {
     (0x22, 0x81A4): ANNOUNCE,
     (0x22, 0x81B6): SELECT_KEY,
     (0x2A, 0x00BE): IMPORT,
-    (0x84, 0x0000): "GET CHALLENGE",
-    (0x82, 0x0000): "EXTERNAL AUTHENTICATE",
-    (0x20, 0x8000): "VERIFY of auxiliary data",
+    (0x84, 0x0000): CHALLENGE,
+    (0x82, 0x0000): PROVE,
+    (0x20, 0x8000): COMPARE,
     (0x2C, 0x0203): "RESET RETRY COUNTER, new PIN",
     (0x2C, 0x0303): "RESET RETRY COUNTER, Unblock PIN",
     (0x2C, 0x0202): "RESET RETRY COUNTER, new CAN",
     (0x44, 0x1003): "ACTIVATE of the PIN",
     (0x04, 0x1003): "DEACTIVATE of the PIN",
 }
+# The runs: each step is followed by the next one.
+PACE_RUN = (SELECT_PACE, ENCRYPTED_NONCE, PACE_STEPS[0x81], PACE_STEPS[0x83], PACE_STEPS[0x85])
+RUNS = (
+    PACE_RUN,
+    (SELECT_KEY, IMPORT),
+    (ANNOUNCE, CHALLENGE, PROVE),
+    (SELECT_CHIP_AUTHENTICATION, AUTHENTICATE_CHIP),
+    (SELECT_IDENTIFICATION, IDENTIFY),
+)
+NEXT_STEPS = {step: following for run in RUNS for step, following in zip(run, run[1:])}
 COMPARISONS = {
     b"\x06\x09" + tables.BIRTH: "VERIFY of the age",
     b"\x06\x09" + tables.EXPIRY: "VERIFY of the document validity",
@@ -184,11 +197,11 @@ def step_name(body: bytes) -> str:
 
 
 def protocol_name(body: bytes) -> str:
-    """Which selection 41A4 is, by the protocol in its 80."""
+    """Which selection 41A4 is, by the protocol in its 80, which stands there once."""
     named = [one.value for one in objects_in(body) or [] if one.tag == 0x80]
-    if tables.CHIP_AUTHENTICATION in named:
+    if named == [tables.CHIP_AUTHENTICATION]:
         return SELECT_CHIP_AUTHENTICATION
-    return SELECT_IDENTIFICATION if tables.RESTRICTED_IDENTIFICATION in named else "MSE:Set AT for internal authentication"
+    return SELECT_IDENTIFICATION if named == [tables.RESTRICTED_IDENTIFICATION] else SELECT_PROTOCOL
 
 
 def name_of(command: Command) -> str:
@@ -266,7 +279,7 @@ def answer_parts(command: Optional[Command], file: Optional[str], data: bytes) -
         return take_apart(data, objects.dynamic(objects.SECTOR_ANSWER))
     if name.startswith("GENERAL AUTHENTICATE"):
         return take_apart(data, objects.dynamic(objects.PACE_ANSWER))
-    if name == "GET CHALLENGE":
+    if name == CHALLENGE:
         return [Part("the challenge", value=data)]
     if name == READ:
         whole = file in ("EF.CardAccess", "EF.CardSecurity") and command.p1p2 & 0xFF == 0

@@ -22,6 +22,8 @@ class Session:
     named: Optional[str] = None
     password: Optional[str] = None
     file: Optional[str] = None
+    # the name of the next step of the run
+    step: Optional[str] = None
     # the open chain of fragments: its bodies so far, and how many there are
     chain: bytes = b""
     fragments: int = 0
@@ -56,17 +58,18 @@ class Course:
         elif moment.rule in ENDING_RULES:
             self.number, self.session = self.number + 1, Session()
         elif moment.rule:
-            self.session = replace(self.session, chain=b"", fragments=0)
+            self.session = replace(self.session, step=None, chain=b"", fragments=0)
         elif moment.is_carried_out():
             self.session = self.after(self.session, moment)
 
     def after(self, session: Session, moment: Moment) -> Session:
         """The session behind a command that was carried out."""
         if moment.plain.is_fragment():
-            return replace(session, chain=session.chain + moment.plain.body, fragments=session.fragments + 1)
+            step = session.step if goes_on_with(moment.plain, session.step) else None
+            return replace(session, step=step, chain=session.chain + moment.plain.body, fragments=session.fragments + 1)
         request = self.request(moment)
-        session = replace(session, chain=b"", fragments=0)
         name = commands.name_of(request)
+        session = replace(session, step=commands.NEXT_STEPS.get(name), chain=b"", fragments=0)
         if name == commands.SELECT_PACE:
             return replace(session, named=password_of(request.body))
         if name == commands.PACE_STEPS[0x85]:
@@ -82,6 +85,11 @@ class Course:
         if name.startswith("SELECT"):
             return None
         return self.file_read(request) if name in (commands.READ, commands.UPDATE) else session.file
+
+
+def goes_on_with(fragment: Command, step: Optional[str]) -> bool:
+    """Whether a fragment has the instruction and the parameters of this step. Only an import comes in fragments."""
+    return step == commands.IMPORT and commands.NAMES.get((fragment.ins, fragment.p1p2)) == step
 
 
 def password_of(body: bytes) -> str:

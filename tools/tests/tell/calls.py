@@ -10,7 +10,7 @@ from telling.certificates import certificate_lines
 from telling.images import image_lines
 from telling.lines import tell_moments
 from telling.trace import read_trace
-from tests.tell import TOP, holds, same
+from tests.looking import TOP, holds, same
 
 TELL = str(TOP / "tools/tell")
 TRACE = "examples/full-session/trace.txt"

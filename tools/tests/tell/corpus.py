@@ -11,7 +11,7 @@ from telling.objects import CERTIFICATE, NOT_HERE, take_apart
 from telling.tables import FILE_KEYS, MARK
 from telling.text import moment_lines
 from telling.trace import read_trace
-from tests.tell import TOP, holds, same
+from tests.looking import TOP, holds, same
 
 FOLDERS = ("examples", "tests")
 # Words of a line that are no bytes.

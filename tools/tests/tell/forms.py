@@ -5,7 +5,7 @@ from telling import Refused
 from telling.commands import Command, fields_of, name_of
 from telling.parts import arcs_of, next_object, objects_in
 from telling.trace import read_trace
-from tests.tell import same
+from tests.looking import same
 
 # What stands behind a header, its body and its expected length; None where it is none of the seven cases.
 TAILS = (

@@ -3,7 +3,7 @@
 import re
 
 from telling import tables
-from tests.tell import TOP, same
+from tests.looking import TOP, same
 
 
 def rows(heading):

@@ -11,7 +11,7 @@ import tempfile
 from telling.lines import tell_moments
 from telling.page import page
 from telling.trace import read_trace
-from tests.tell import TOP, Skipped, holds, same
+from tests.looking import TOP, Skipped, holds, same
 
 FULL_SESSION = TOP / "examples/full-session/trace.txt"
 BROWSERS = ("chromium", "chromium-browser", "google-chrome", "chrome")

@@ -8,10 +8,11 @@ import pathlib
 import re
 import tempfile
 
+from corpus.reading import CASE_FILE, case_folders, read_case, steps_of
 from telling.keys import first_bad_key, kit_keys, make_keys, plan_keys
 from telling.texts import answer_defect, first_defect, script_defect
 from telling.why import expected_reason, reason_of
-from tests.tell import TOP, begins, holds, same
+from tests.looking import TOP, begins, holds, same
 
 CHIP = (TOP / "examples/make-an-image/chip.toml").read_text()
 KIT = (TOP / "examples/two-certificates/terminal.toml").read_text()
@@ -299,7 +300,7 @@ def runner():
 def refused_steps(cases, folder):
     """The runs of a case that an input refuses, each with its files laid out in the working folder, and its status."""
     run = cases.Run(folder, pathlib.Path.cwd(), None)
-    for key, value in cases.steps_of(cases.read_case(folder)):
+    for key, value in steps_of(read_case(folder)):
         if key == "before":
             run.files[value.split(" ")[-1]] = IMAGE
         elif key != "words":
@@ -316,8 +317,8 @@ def refused_steps(cases, folder):
 def test_the_corpus():
     """Each refused input of the cases is refused here with the same status, and the reason names a place."""
     cases, number = runner(), 0
-    for folder in sorted(path.parent for path in (TOP / "tests").glob("*/case.txt")):
-        if not re.search("^status: [14568]", (folder / "case.txt").read_text(), re.MULTILINE):
+    for folder in case_folders(TOP / "tests"):
+        if not re.search("^status: [14568]", (folder / CASE_FILE).read_text(), re.MULTILINE):
             continue
         with working_folder():
             for words, status in refused_steps(cases, folder):

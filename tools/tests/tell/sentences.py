@@ -6,7 +6,7 @@ from telling.lines import tell_moments
 from telling.templates import rights_words, role_of, template_lines
 from telling.text import hex_of
 from telling.trace import read_trace
-from tests.tell import TOP, holds, same
+from tests.looking import TOP, holds, same
 
 # Of examples/full-session/trace.txt: the front of a line (the first one that has it), its words, and those of its parts by their
 # bytes. Names of commands, tags and identifiers are those of ISO/IEC 7816-4 and BSI TR-03110-3.
