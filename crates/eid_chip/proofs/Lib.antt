@@ -2,6 +2,7 @@ pub mod HeldFiles
 pub mod Outcomes
 pub mod Follow
 pub mod Chips
+pub mod Calm
 pub mod Unasked
 pub mod Bodies
 pub mod PaceSteps

@@ -15,6 +15,7 @@ ghost use Rattle.eid_store.specs.Stands.{stands};
 ghost use Rattle.eid_sm.specs.Plain.{plain_of};
 ghost use Rattle.eid_model.specs.Moments.{PoweredOn, PoweredOff, ends_session_by};
 ghost use Rattle.eid_model.specs.Kinds.{goes_on_in_run};
+ghost use Rattle.eid_model.specs.Rules.{committing, concerns};
 ghost use Rattle.eid_model.specs.Runs.{is_piece_of_next};
 ghost use Rattle.eid_model.specs.Legal.{silent};
 ghost use Rattle.eid_chip.specs.Commits.{MOST_MOUNTING};
@@ -25,7 +26,7 @@ ghost use Rattle.eid_chip.specs.States.{next_of, state};
 ghost use Rattle.eid_chip.specs.Transitions.{state_later, state_piece};
 ghost use Rattle.eid_chip.specs.Tries.{IsTryLeft};
 ghost use Rattle.eid_chip.specs.Worlds.{IsMounted, world};
-ghost use Rattle.eid_chip.specs.Steps.{Performed, Reacts, Responds, message_in, rule_of, sent_next};
+ghost use Rattle.eid_chip.specs.Steps.{Performed, Reacts, Responds, Stepped, message_in, rule_of, sent_next};
 ghost use Rattle.eid_chip.specs.Fits.{plain_in};
 
 use crate::certificates::{select_public_key, verify_certificate};
@@ -77,6 +78,61 @@ fn apart(c: &Command<'_>, body: &mut ArrayVec<u8, MAX_BODY>) -> Header
     }
 }
 
+/// Carries out a command of a kind that never commits, or refuses it by the first failed rule of its kind.
+fn perform_uncommitted<E: Eeprom, C: Coprocessor>(
+    kind: Kind,
+    session: Session,
+    store: &Store,
+    cells: &E,
+    copro: &mut C,
+    c: &Command<'_>,
+    reply: &mut Reply,
+) -> Reaction
+    requires mounted { IsMounted (world (C.seen copro.old) store.now (E.device cells.now) (E.cells cells.now)) }
+    requires room { 2 ≤ (C.seen copro.old).spare }
+    requires turn { goes_on_in_run kind ≡ true → next_of session.run ≡ Some kind }
+    requires calm { concerns committing (Some kind) ≡ false }
+    requires short { length c.now.body.now ≤ 2048 }
+    requires try_left { IsTryLeft session.run (stored.fields_of store.now) }
+    ensures stepped { Stepped (C.seen copro.old) (C.seen copro.new) kind (held (E.cells cells.now)) session (plain_command c.now) result
+        (plain_reply reply.new) }
+    ensures small { array_vec_len reply.new.content ≤ 2048 }
+{
+    match kind {
+        Kind::SelectApplication => select_application(session, c, reply),
+        Kind::SelectMasterFile => select_master_file(session, c, reply),
+        Kind::SelectFile => select_file(session, c, reply),
+        Kind::ReadBinary => read_binary(session, store, cells, c, reply),
+        Kind::SelectPace => select_pace(session, store.kept(), c, reply),
+        Kind::SelectPublicKey => select_public_key(session, store.kept(), c, reply),
+        Kind::AnnounceTerminal => announce_terminal(session, c, reply),
+        Kind::GetChallenge => get_challenge(session, copro, c, reply),
+        Kind::ExternalAuthenticate => external_authenticate(session, copro, c, reply),
+        Kind::SelectChipAuthentication => select_chip_authentication(session, c, reply),
+        Kind::SelectRestrictedIdentification => {
+            select_restricted_identification(session, c, reply)
+        }
+        Kind::EncryptedNonce => encrypted_nonce(session, store, cells, copro, c, reply),
+        Kind::MapNonce => map_nonce(session, copro, c, reply),
+        Kind::PerformKeyAgreement => perform_key_agreement(session, copro, c, reply),
+        Kind::AuthenticateChip => authenticate_chip(session, store.kept(), copro, c, reply),
+        Kind::PerformRestrictedIdentification => {
+            perform_restricted_identification(session, store.kept(), copro, c, reply)
+        }
+        Kind::VerifyAuxiliary => verify_auxiliary(session, store, cells, c, reply),
+        Kind::NoProtocol => refused(BODY_FORM, session, reply),
+        Kind::NoStep => refused(NO_STEP, session, reply),
+        Kind::UpdateBinary
+        | Kind::VerifyCertificate
+        | Kind::MutualAuthentication
+        | Kind::ChangePin
+        | Kind::UnblockPin
+        | Kind::ChangeCan
+        | Kind::ActivatePin
+        | Kind::DeactivatePin => unreachable!(),
+    }
+}
+
 /// Carries out a command of this kind with its commits, or refuses it by the first failed rule of its kind.
 fn perform<E: Eeprom, C: Coprocessor>(
     kind: Kind,
@@ -98,51 +154,15 @@ fn perform<E: Eeprom, C: Coprocessor>(
     ensures small { array_vec_len reply.new.content ≤ 2048 }
 {
     match kind {
-        Kind::SelectApplication => uncommitted(select_application(session, c, reply)),
-        Kind::SelectMasterFile => uncommitted(select_master_file(session, c, reply)),
-        Kind::SelectFile => uncommitted(select_file(session, c, reply)),
-        Kind::ReadBinary => uncommitted(read_binary(session, store, cells, c, reply)),
         Kind::UpdateBinary => update_binary(session, store, cells, c, reply),
-        Kind::SelectPace => uncommitted(select_pace(session, store.kept(), c, reply)),
-        Kind::SelectPublicKey => { uncommitted(select_public_key(session, store.kept(), c, reply)) }
         Kind::VerifyCertificate => verify_certificate(session, store, cells, copro, c, reply),
-        Kind::AnnounceTerminal => uncommitted(announce_terminal(session, c, reply)),
-        Kind::GetChallenge => uncommitted(get_challenge(session, copro, c, reply)),
-        Kind::ExternalAuthenticate => {
-            uncommitted(external_authenticate(session, copro, c, reply))
-        }
-        Kind::SelectChipAuthentication => {
-            uncommitted(select_chip_authentication(session, c, reply))
-        }
-        Kind::SelectRestrictedIdentification => {
-            uncommitted(select_restricted_identification(session, c, reply))
-        }
-        Kind::EncryptedNonce => {
-            uncommitted(encrypted_nonce(session, store, cells, copro, c, reply))
-        }
-        Kind::MapNonce => uncommitted(map_nonce(session, copro, c, reply)),
-        Kind::PerformKeyAgreement => {
-            uncommitted(perform_key_agreement(session, copro, c, reply))
-        }
         Kind::MutualAuthentication => mutual_authentication(session, store, cells, c, reply),
-        Kind::AuthenticateChip => {
-            uncommitted(authenticate_chip(session, store.kept(), copro, c, reply))
-        }
-        Kind::PerformRestrictedIdentification => uncommitted(perform_restricted_identification(
-            session,
-            store.kept(),
-            copro,
-            c,
-            reply,
-        )),
-        Kind::VerifyAuxiliary => uncommitted(verify_auxiliary(session, store, cells, c, reply)),
         Kind::ChangePin => change_pin(session, store, cells, c, reply),
         Kind::UnblockPin => unblock_pin(session, store, cells, c, reply),
         Kind::ChangeCan => change_can(session, store, cells, c, reply),
         Kind::ActivatePin => set_active(true, session, store, cells, c, reply),
         Kind::DeactivatePin => set_active(false, session, store, cells, c, reply),
-        Kind::NoProtocol => uncommitted(refused(BODY_FORM, session, reply)),
-        Kind::NoStep => uncommitted(refused(NO_STEP, session, reply)),
+        _ => uncommitted(perform_uncommitted(kind, session, store, cells, copro, c, reply)),
     }
 }
 
