@@ -45,6 +45,13 @@ impl MemoryEeprom {
         &self.cells
     }
 
+    /// The cells, from place 0 on, of a device that is given up.
+    pub fn into_cells(self) -> Vec<u8>
+        ensures { result.items ≡ memory_cells self }
+    {
+        self.cells
+    }
+
     // Leaves in the range of `bytes` what a write cut with that tear leaves there.
     fn change(&mut self, place: u32, tear: Tear, bytes: &[u8])
         requires { place + length bytes.now ≤ 65536 }

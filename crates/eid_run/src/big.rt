@@ -65,8 +65,10 @@ fn meet(alloc: Global, number: u32, cells: Vec<u8>, plan: Plan) -> Result<Left, 
     let Ok(tally) = met else {
         return Err(NoMemory);
     };
-    let cells = Vec::from_slice(alloc, device.cells())?;
-    Ok(Left { cells, tally })
+    Ok(Left {
+        cells: device.into_cells(),
+        tally,
+    })
 }
 
 /// The attempt with a wrong PIN, where the session of this number begins with one.

@@ -13,7 +13,6 @@ use Rattle.eid_terminal.specs.declared.plan.Request.{Request}
 use Rattle.eid_terminal.specs.declared.plan.Request.TheVariants.{File, Age, Validity, Community, Ri}
 use Rattle.eid_terminal.specs.declared.state.RequestCommand.{RequestCommand}
 use Rattle.eid_terminal.specs.declared.state.RequestCommand.TheVariants as request_commands
-use Rattle.eid_terminal.specs.declared.state.Turn.{Turn}
 use Rattle.eid_terminal.specs.Commands.{PlainTerms, get_nonce, identify}
 use Rattle.eid_terminal.specs.Courses.{Course, Passes, Stops, Gives}
 use Rattle.eid_terminal.specs.Exchanges.{exchange, expecting, or_stop}
@@ -21,10 +20,10 @@ use Rattle.eid_terminal.specs.Pace.{Opened, after_nonce, after_selection, after_
 use Rattle.eid_terminal.specs.Plans.{PlainPlan}
 use Rattle.eid_terminal.specs.Replies.{is_done, is_pace_selected, success, token_in}
 use Rattle.eid_terminal.specs.Requests.{after_command, after_identification, after_protocol, giving, lacks_identifier, last_step, requests, sector_of}
-use Rattle.eid_terminal.specs.View.{Comes, Did, after_request, requests_from}
+use Rattle.eid_terminal.specs.View.{Comes, Did, TurnSeen, after_request, requests_from}
 use Rattle.eid_terminal.proofs.Coming.{came_now, fails}
 
-pub came_calm : (copro : CoproSeen) (plan : PlainPlan) (turn : Turn) (at : Course) → fails at ≡ false → Did plan turn at → Comes copro copro plan turn at
+pub came_calm : (copro : CoproSeen) (plan : PlainPlan) (turn : TurnSeen) (at : Course) → fails at ≡ false → Did plan turn at → Comes copro copro plan turn at
 came_calm copro plan turn at calm did = came_now copro plan turn at at refl calm did
 
 pub calm_exchange : (step : Step) (command : PlainCommand) (later : Option ChannelState → PlainReply → Course) (channel : Option ChannelState)

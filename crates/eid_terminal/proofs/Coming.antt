@@ -9,14 +9,12 @@ use Rattle.eid_copro.specs.declared.ask.Ask.{Ask}
 use Rattle.eid_copro.specs.declared.ask.Answer.{Answer}
 use Rattle.eid_copro.specs.declared.ask.Answer.TheVariants as answers
 use Rattle.eid_copro.specs.declared.ask.Question.{Question}
-use Rattle.eid_terminal.specs.declared.action.Action.{Action}
 use Rattle.eid_terminal.specs.declared.action.Step.{Step}
-use Rattle.eid_terminal.specs.declared.state.Turn.{Turn}
 use Rattle.eid_terminal.specs.Courses.{Course, Reached, Asks, Sends, Passes, Gives, Stops, Faults, Ends}
-use Rattle.eid_terminal.specs.Moves.{move_of}
+use Rattle.eid_terminal.specs.Moves.{Move, move_of}
 use Rattle.eid_terminal.specs.Plans.{PlainPlan}
-use Rattle.eid_terminal.specs.Terminals.{move_seen, tells_fault}
-use Rattle.eid_terminal.specs.View.{Comes, Did}
+use Rattle.eid_terminal.specs.Terminals.{tells_fault}
+use Rattle.eid_terminal.specs.View.{Comes, Did, TurnSeen}
 
 -- whether a fault comes at a course
 abbrev pub fails : Course → Bool
@@ -37,8 +35,8 @@ told_at (Stops step status) calm told = cc
 told_at (Faults step) calm told = cc
 told_at Ends calm told = cc
 
-told_by : (action : Action) (at : Course) → move_seen action ≡ move_of at → fails at ≡ false → tells_fault (move_seen action) ≡ true → ⊥
-told_by action at e calm told = told_at at calm (rw e at told)
+told_by : (move : Move) (at : Course) → move ≡ move_of at → fails at ≡ false → tells_fault move ≡ true → ⊥
+told_by move at e calm told = told_at at calm (rw e at told)
 
 -- one stands at a course itself
 pub here : (at : Course) → Reached at [] [] 0 at
@@ -50,22 +48,22 @@ here (Stops step status) = (refl, refl, refl, refl)
 here (Faults step) = (refl, refl, refl, refl)
 here Ends = (refl, refl, refl, refl)
 
-pub did_at : (plan : PlainPlan) (turn : Turn) (from at : Course) → from ≡ at → Did plan turn at → Did plan turn from
+pub did_at : (plan : PlainPlan) (turn : TurnSeen) (from at : Course) → from ≡ at → Did plan turn at → Did plan turn from
 did_at plan turn from at e did = subst (λ (c : Course). Did plan turn c) (sym e) did
 
 -- without a question
-pub came_now : (copro : CoproSeen) (plan : PlainPlan) (turn : Turn) (from at : Course) → from ≡ at → fails at ≡ false → Did plan turn at → Comes copro copro plan turn from
+pub came_now : (copro : CoproSeen) (plan : PlainPlan) (turn : TurnSeen) (from at : Course) → from ≡ at → fails at ≡ false → Did plan turn at → Comes copro copro plan turn from
 came_now copro plan turn from at e calm did = record {
   asks = [];
   were_asked = not_asked copro;
   at = at;
   reached = subst (λ (c : Course). Reached c [] [] 0 at) (sym e) (here at);
   did = did;
-  fault = λ told. absurd (told_by turn.action at did.move calm told);
+  fault = λ told. absurd (told_by turn.move at did.move calm told);
 }
 
 -- by a question that met a fault
-pub came_fault : (old new : CoproSeen) (plan : PlainPlan) (turn : Turn) (from : Course) (question : Question) (later : Answer → Course) (step : Step)
+pub came_fault : (old new : CoproSeen) (plan : PlainPlan) (turn : TurnSeen) (from : Course) (question : Question) (later : Answer → Course) (step : Step)
     → from ≡ Asks question later → later answers.Fault ≡ Faults step → Asked old new question answers.Fault → Did plan turn (Faults step) → Comes old new plan turn from
 came_fault old new plan turn from question later step e fault asked did = record {
   asks = record { question = question; answer = answers.Fault } ∷ [];
@@ -89,7 +87,7 @@ more_asked old between new question answer asks h fine more = record {
 }
 
 -- by a question that was answered, and what came then
-pub came_by : (old between new : CoproSeen) (plan : PlainPlan) (turn : Turn) (from : Course) (question : Question) (later : Answer → Course) (answer : Answer)
+pub came_by : (old between new : CoproSeen) (plan : PlainPlan) (turn : TurnSeen) (from : Course) (question : Question) (later : Answer → Course) (answer : Answer)
     → from ≡ Asks question later → Asked old between question answer → is_fault answer ≡ false → Comes between new plan turn (later answer) → Comes old new plan turn from
 came_by old between new plan turn from question later answer e asked fine comes = record {
   asks = record { question = question; answer = answer } ∷ comes.asks;
@@ -109,5 +107,5 @@ pub so : (b : Bool) → false ≡ not b → b ≡ true
 so true h = refl
 so false h = cc
 
-pub came_at : (old new : CoproSeen) (plan : PlainPlan) (turn : Turn) (from at : Course) → from ≡ at → Comes old new plan turn at → Comes old new plan turn from
+pub came_at : (old new : CoproSeen) (plan : PlainPlan) (turn : TurnSeen) (from at : Course) → from ≡ at → Comes old new plan turn at → Comes old new plan turn from
 came_at old new plan turn from at e comes = subst (λ (c : Course). Comes old new plan turn c) (sym e) comes

@@ -22,6 +22,8 @@ use Rattle.eid_terminal.specs.declared.state.ChipCommand.{ChipCommand}
 use Rattle.eid_terminal.specs.declared.state.ChipCommand.TheVariants as chip_commands
 use Rattle.eid_terminal.specs.declared.state.RequestCommand.{RequestCommand}
 use Rattle.eid_terminal.specs.declared.state.RequestCommand.TheVariants as request_commands
+use Rattle.eid_terminal.specs.declared.state.Deed.{Deed}
+use Rattle.eid_terminal.specs.declared.state.Deed.TheVariants as deeds
 use Rattle.eid_terminal.specs.declared.state.Ending.{Ending}
 use Rattle.eid_terminal.specs.declared.state.Ending.TheVariants as endings
 use Rattle.eid_terminal.specs.declared.state.Round.{Round}
@@ -37,11 +39,12 @@ use Rattle.eid_terminal.specs.Authentication.{after_challenge, after_proof, auth
 use Rattle.eid_terminal.specs.Commands.{PlainTerms, agree, announce, authenticate, auxiliary, external_authenticate, get_challenge, get_nonce, identify, import_certificate, map_nonce, prove, select_application, select_chip_authentication, select_key, select_pace}
 use Rattle.eid_terminal.specs.Courses.{Course, IsReading, Reached, Passes, Stops, Faults, Ends, SendsBytes}
 use Rattle.eid_terminal.specs.Exchanges.{awaiting, by_reading, counted, exchange, expecting}
-use Rattle.eid_terminal.specs.Moves.{move_of}
+use Rattle.eid_terminal.specs.Moves.{Move, move_of}
+use Rattle.eid_terminal.specs.Moves as moves
 use Rattle.eid_terminal.specs.Pace.{Opened, after_agreement, after_mapping, after_nonce, after_selection, after_token, token_for}
 use Rattle.eid_terminal.specs.Plans.{PlainPlan, CanBeAsked}
 use Rattle.eid_terminal.specs.Requests.{after_command, after_identification, command_for, last_step, requests, sector_of}
-use Rattle.eid_terminal.specs.Terminals.{TerminalView, behind_pace, course, left_at, move_seen, tells_fault, with_password}
+use Rattle.eid_terminal.specs.Terminals.{TerminalView, behind_pace, course, left_at, tells_fault, with_password}
 
 abbrev pub terms_view : Terms → PlainTerms
 terms_view t = record { password = t.password; digits = t.digits.items; template = option_map template_bytes t.template }
@@ -188,24 +191,40 @@ IsSound plan (states.Ended ending) = Unit {0}
 
 -- ---- a turn
 
+-- what was done, with the bytes that were written and the reply that was heard
+abbrev pub move_made : Deed → (message : List ℕ) → (heard : PlainReply) → Move
+move_made deeds.Send message heard = moves.Sends message
+move_made (deeds.Result request) message heard = moves.Gives request heard
+move_made (deeds.Passed step) message heard = moves.Passes step
+move_made deeds.Done message heard = moves.Ends
+move_made (deeds.Stopped step status) message heard = moves.Stops step status.0
+move_made (deeds.Fault step) message heard = moves.Faults step
+
+pub record TurnSeen : Type 0 where
+  pub state : State
+  pub move : Move
+
+abbrev pub seen : Turn → (message : List ℕ) → (heard : PlainReply) → TurnSeen
+seen turn message heard = record { state = turn.state; move = move_made turn.deed message heard }
+
 -- the terminal did what comes at a course, and stands behind it
-pub record Did (plan : PlainPlan) (turn : Turn) (at : Course) : Type 0 where
+pub record Did (plan : PlainPlan) (turn : TurnSeen) (at : Course) : Type 0 where
   pub left : state_view plan turn.state ≡ left_at at
-  pub move : move_seen turn.action ≡ move_of at
+  pub move : turn.move ≡ move_of at
   pub octets : SendsBytes at
   pub sound : IsSound plan turn.state
 
 -- it put questions on the way from one course to another, and did what comes there
-pub record Comes (before after : CoproSeen) (plan : PlainPlan) (turn : Turn) (from : Course) : Type 0 where
+pub record Comes (before after : CoproSeen) (plan : PlainPlan) (turn : TurnSeen) (from : Course) : Type 0 where
   pub asks : List Ask
   pub were_asked : WereAsked before after asks
   pub at : Course
   pub reached : Reached from asks [] 0 at
   pub did : Did plan turn at
-  pub fault : tells_fault (move_seen turn.action) ≡ true → Rose before.faults after.faults
+  pub fault : tells_fault turn.move ≡ true → Rose before.faults after.faults
 
 -- the bytes were read as a reply or as none, and the terminal went on by that
-pub record Heard (before after : CoproSeen) (plan : PlainPlan) (waiting : Waiting) (bytes : List ℕ) (turn : Turn) : Type 0 where
+pub record Heard (before after : CoproSeen) (plan : PlainPlan) (waiting : Waiting) (bytes : List ℕ) (turn : TurnSeen) : Type 0 where
   pub reading : Option PlainReply
   pub reads : IsReading waiting.channel bytes reading
   pub comes : Comes before after plan turn

@@ -1,7 +1,7 @@
 //! Terminal authentication with the import of certificates (BSI TR-03110-2 and TR-03110-3).
-ghost use Rattle.std.specs.Prelude.{◌≡◌, ◌+◌, ◌≤◌, ◌<◌, length, drop, Option};
+ghost use Rattle.std.specs.Prelude.{◌≡◌, ◌+◌, ◌≤◌, ◌<◌, length, drop, Option, ℕ, List};
 ghost use Rattle.sha2.specs.Sha256.{sha256};
-ghost use Rattle.eid_apdu.specs.Answer.{plain_reply};
+ghost use Rattle.eid_apdu.specs.Answer.{PlainReply, plain_reply};
 ghost use Rattle.eid_cvc.specs.PublicKeys.{x_half};
 ghost use Rattle.eid_sm.specs.Keys.{ChannelState};
 ghost use Rattle.eid_terminal.specs.declared.action.Step.TheVariants as steps;
@@ -11,7 +11,7 @@ ghost use Rattle.eid_terminal.specs.Commands.{get_challenge, import_certificate}
 ghost use Rattle.eid_terminal.specs.Courses.{Passes};
 ghost use Rattle.eid_terminal.specs.Exchanges.{exchange, expecting};
 ghost use Rattle.eid_terminal.specs.Plans.{IsFit, PlainPlan, plan_view};
-ghost use Rattle.eid_terminal.specs.View.{Comes, Did, HasCertificate, after_terminal, certificate_at, imports_behind};
+ghost use Rattle.eid_terminal.specs.View.{Comes, Did, HasCertificate, after_terminal, certificate_at, imports_behind, seen};
 
 use crate::action::Step;
 use crate::bodies::{announcement, auxiliary, key_selection};
@@ -22,7 +22,7 @@ use crate::headers::{
 use crate::line::send;
 use crate::plan::Plan;
 use crate::replies::{challenge_in, is_done};
-use crate::state::{Awaited, Pair, Standing, TerminalCommand, Turn};
+use crate::state::{Awaited, Message, Pair, Standing, TerminalCommand, Turn};
 use crate::turns::{failed, passed, stopped};
 use eid_apdu::Reply;
 use eid_base::Point;
@@ -47,19 +47,21 @@ pub fn import<C: Coprocessor>(
     identity: [u8; 32],
     place: usize,
     copro: &mut C,
+    message: &mut Message,
 ) -> Turn
     requires { 1 ≤ (C.seen copro.old).spare }
-    ensures { Comes (C.seen copro.old) (C.seen copro.new) (plan_view plan.now) result
+    ensures { (heard : PlainReply) → Comes (C.seen copro.old) (C.seen copro.new) (plan_view plan.now) (seen result message.new.items heard)
         (course.imports (plan_view plan.now) identity (drop place (plan_view plan.now).certificates) channel) }
 {
     let Some(certificate) = certificate_at(plan, place) else {
-        return announce(plan, channel, identity, copro);
+        return announce(plan, channel, identity, copro, message);
     };
     send(
         channel,
         Awaited::Terminal(TerminalCommand::KeySelection { identity, place }),
         SELECT_KEY,
         &key_selection(issuer_of(certificate)),
+        message,
     )
 }
 
@@ -70,10 +72,12 @@ pub fn after_key_selection(
     identity: [u8; 32],
     place: usize,
     reply: &Reply,
+    message: &mut Message,
 ) -> Turn
     requires fit { IsFit (plan_view plan.now) }
     requires there { place < length (plan_view plan.now).certificates }
-    ensures { let p = plan_view plan.now in Did p result (expecting steps.Ta (exchange steps.Ta (import_certificate (certificate_at p place))
+    ensures { (heard : PlainReply) → let p = plan_view plan.now in
+        Did p (seen result message.new.items heard) (expecting steps.Ta (exchange steps.Ta (import_certificate (certificate_at p place))
         (expecting steps.Ta (imports_behind p identity place))) channel (plain_reply reply.now)) }
 {
     if !is_done(reply) {
@@ -85,6 +89,7 @@ pub fn after_key_selection(
         Awaited::Terminal(TerminalCommand::Certificate { identity, place }),
         VERIFY_CERTIFICATE,
         certificate,
+        message,
     )
 }
 
@@ -96,16 +101,18 @@ pub fn after_certificate<C: Coprocessor>(
     place: usize,
     reply: &Reply,
     copro: &mut C,
+    message: &mut Message,
 ) -> Turn
     requires there { place < length (plan_view plan.now).certificates }
     requires room { 1 ≤ (C.seen copro.old).spare }
-    ensures { let p = plan_view plan.now in Comes (C.seen copro.old) (C.seen copro.new) p result
+    ensures { (heard : PlainReply) → let p = plan_view plan.now in
+        Comes (C.seen copro.old) (C.seen copro.new) p (seen result message.new.items heard)
         (expecting steps.Ta (imports_behind p identity place) channel (plain_reply reply.now)) }
 {
     if !is_done(reply) {
         return stopped(Step::Ta, reply.status);
     }
-    import(plan, channel, identity, place + 1, copro)
+    import(plan, channel, identity, place + 1, copro, message)
 }
 
 /// Draws a pair, and announces the terminal with the X half of its point.
@@ -114,9 +121,10 @@ fn announce<C: Coprocessor>(
     channel: Option<Channel>,
     identity: [u8; 32],
     copro: &mut C,
+    message: &mut Message,
 ) -> Turn
     requires { 1 ≤ (C.seen copro.old).spare }
-    ensures { Comes (C.seen copro.old) (C.seen copro.new) (plan_view plan.now) result
+    ensures { (heard : PlainReply) → Comes (C.seen copro.old) (C.seen copro.new) (plan_view plan.now) (seen result message.new.items heard)
         (course.authenticate_terminal (plan_view plan.now) identity channel) }
 {
     let Ok(pair) = copro.pair(None) else {
@@ -131,6 +139,7 @@ fn announce<C: Coprocessor>(
         Awaited::Terminal(TerminalCommand::Announcement { identity, pair }),
         ANNOUNCE,
         &body,
+        message,
     )
 }
 
@@ -140,8 +149,9 @@ pub fn after_announcement(
     identity: [u8; 32],
     pair: Pair,
     reply: &Reply,
+    message: &mut Message,
 ) -> Turn
-    ensures { (plan : PlainPlan) → Did plan result (expecting steps.Ta (exchange steps.Ta get_challenge
+    ensures { (plan : PlainPlan) (heard : PlainReply) → Did plan (seen result message.new.items heard) (expecting steps.Ta (exchange steps.Ta get_challenge
         (course.after_challenge plan identity pair.secret pair.point)) channel (plain_reply reply.now)) }
 {
     if !is_done(reply) {
@@ -152,6 +162,7 @@ pub fn after_announcement(
         Awaited::Terminal(TerminalCommand::Challenge { identity, pair }),
         GET_CHALLENGE,
         &[],
+        message,
     )
 }
 
@@ -175,9 +186,10 @@ pub fn after_challenge<C: Coprocessor>(
     pair: Pair,
     reply: &Reply,
     copro: &mut C,
+    message: &mut Message,
 ) -> Turn
     requires { 1 ≤ (C.seen copro.old).spare }
-    ensures { Comes (C.seen copro.old) (C.seen copro.new) (plan_view plan.now) result
+    ensures { (heard : PlainReply) → Comes (C.seen copro.old) (C.seen copro.new) (plan_view plan.now) (seen result message.new.items heard)
         (course.after_challenge (plan_view plan.now) identity.now pair.secret pair.point channel (plain_reply reply.now)) }
 {
     let Some(challenge) = challenge_in(reply) else {
@@ -192,12 +204,13 @@ pub fn after_challenge<C: Coprocessor>(
         Awaited::Terminal(TerminalCommand::Signature { pair, signature }),
         EXTERNAL_AUTHENTICATE,
         &signature,
+        message,
     )
 }
 
 /// The signature was accepted.
 pub fn after_signature(channel: Option<Channel>, pair: Pair, reply: &Reply) -> Turn
-    ensures { (plan : PlainPlan) → Did plan result (expecting steps.Ta (λ known. Passes steps.Ta
+    ensures { (plan : PlainPlan) (message : List ℕ) (heard : PlainReply) → Did plan (seen result message heard) (expecting steps.Ta (λ known. Passes steps.Ta
         (course.authenticate_chip plan pair.secret pair.point known)) channel (plain_reply reply.now)) }
 {
     if !is_done(reply) {
@@ -213,25 +226,26 @@ pub fn hear<C: Coprocessor>(
     command: TerminalCommand,
     reply: &Reply,
     copro: &mut C,
+    message: &mut Message,
 ) -> Turn
     requires fit { IsFit (plan_view plan.now) }
     requires there { HasCertificate (plan_view plan.now) command }
     requires room { 1 ≤ (C.seen copro.old).spare }
-    ensures { let p = plan_view plan.now in
-        Comes (C.seen copro.old) (C.seen copro.new) p result (after_terminal p command channel (plain_reply reply.now)) }
+    ensures { (heard : PlainReply) → let p = plan_view plan.now in
+        Comes (C.seen copro.old) (C.seen copro.new) p (seen result message.new.items heard) (after_terminal p command channel (plain_reply reply.now)) }
 {
     match command {
         TerminalCommand::KeySelection { identity, place } => {
-            after_key_selection(plan, channel, identity, place, reply)
+            after_key_selection(plan, channel, identity, place, reply, message)
         }
         TerminalCommand::Certificate { identity, place } => {
-            after_certificate(plan, channel, identity, place, reply, copro)
+            after_certificate(plan, channel, identity, place, reply, copro, message)
         }
         TerminalCommand::Announcement { identity, pair } => {
-            after_announcement(channel, identity, pair, reply)
+            after_announcement(channel, identity, pair, reply, message)
         }
         TerminalCommand::Challenge { identity, pair } => {
-            after_challenge(plan, channel, &identity, pair, reply, copro)
+            after_challenge(plan, channel, &identity, pair, reply, copro, message)
         }
         TerminalCommand::Signature { pair, .. } => after_signature(channel, pair, reply),
     }

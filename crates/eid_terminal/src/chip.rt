@@ -1,6 +1,6 @@
 //! Chip authentication, and the selection of the application (BSI TR-03110-2 and TR-03110-3; ISO/IEC 7816-4).
-ghost use Rattle.std.specs.Prelude.{◌≡◌, ◌≤◌, Option};
-ghost use Rattle.eid_apdu.specs.Answer.{plain_reply};
+ghost use Rattle.std.specs.Prelude.{◌≡◌, ◌≤◌, Option, ℕ, List};
+ghost use Rattle.eid_apdu.specs.Answer.{PlainReply, plain_reply};
 ghost use Rattle.eid_ca.specs.Keys as keys;
 ghost use Rattle.eid_sm.specs.Keys.{ChannelState};
 ghost use Rattle.eid_terminal.specs.declared.action.Step.TheVariants as steps;
@@ -12,7 +12,7 @@ ghost use Rattle.eid_terminal.specs.Exchanges.{exchange, expecting};
 ghost use Rattle.eid_terminal.specs.Pace.{channel_under};
 ghost use Rattle.eid_terminal.specs.Plans.{PlainPlan, plan_view};
 ghost use Rattle.eid_terminal.specs.Requests.{requests};
-ghost use Rattle.eid_terminal.specs.View.{Comes, Did, after_chip};
+ghost use Rattle.eid_terminal.specs.View.{Comes, Did, after_chip, seen};
 
 use crate::action::Step;
 use crate::bodies::{authentication_data, protocol_selection};
@@ -20,7 +20,7 @@ use crate::headers::{AUTHENTICATE, SELECT_APPLICATION, SELECT_PROTOCOL};
 use crate::line::send;
 use crate::plan::Plan;
 use crate::replies::{is_done, proof_in};
-use crate::state::{Awaited, ChipCommand, Pair, Standing, Turn};
+use crate::state::{Awaited, ChipCommand, Message, Pair, Standing, Turn};
 use crate::turns::{failed, passed, stopped};
 use eid_aes::Aes;
 use eid_apdu::Reply;
@@ -49,20 +49,28 @@ fn channel_under(shared: &[u8; 32], nonce: &[u8; 8]) -> Option<Channel>
 }
 
 /// Selects chip authentication.
-pub fn begin(channel: Option<Channel>, pair: Pair) -> Turn
-    ensures { (plan : PlainPlan) → Did plan result (course.authenticate_chip plan pair.secret pair.point channel) }
+pub fn begin(channel: Option<Channel>, pair: Pair, message: &mut Message) -> Turn
+    ensures { (plan : PlainPlan) (heard : PlainReply) → Did plan (seen result message.new.items heard)
+        (course.authenticate_chip plan pair.secret pair.point channel) }
 {
     send(
         channel,
         Awaited::Chip(ChipCommand::Selection { pair }),
         SELECT_PROTOCOL,
         &protocol_selection(Known::CaAes128),
+        message,
     )
 }
 
 /// Chip authentication was selected: sends the point.
-pub fn after_selection(channel: Option<Channel>, pair: Pair, reply: &Reply) -> Turn
-    ensures { (plan : PlainPlan) → Did plan result (expecting steps.Ca (exchange steps.Ca (commands.prove pair.point)
+pub fn after_selection(
+    channel: Option<Channel>,
+    pair: Pair,
+    reply: &Reply,
+    message: &mut Message,
+) -> Turn
+    ensures { (plan : PlainPlan) (heard : PlainReply) → Did plan (seen result message.new.items heard)
+        (expecting steps.Ca (exchange steps.Ca (commands.prove pair.point)
         (course.after_proof plan pair.secret pair.point)) channel (plain_reply reply.now)) }
 {
     if !is_done(reply) {
@@ -74,6 +82,7 @@ pub fn after_selection(channel: Option<Channel>, pair: Pair, reply: &Reply) -> T
         Awaited::Chip(ChipCommand::Proof { pair }),
         AUTHENTICATE,
         &body,
+        message,
     )
 }
 
@@ -81,7 +90,8 @@ pub fn after_selection(channel: Option<Channel>, pair: Pair, reply: &Reply) -> T
 /// terminal's point.
 pub fn after_proof<C: Coprocessor>(plan: &Plan, pair: &Pair, reply: &Reply, copro: &mut C) -> Turn
     requires { 1 ≤ (C.seen copro.old).spare }
-    ensures { (channel : Option ChannelState) → Comes (C.seen copro.old) (C.seen copro.new) (plan_view plan.now) result
+    ensures { (message : List ℕ) (heard : PlainReply) (channel : Option ChannelState)
+        → Comes (C.seen copro.old) (C.seen copro.new) (plan_view plan.now) (seen result message heard)
         (course.after_proof (plan_view plan.now) pair.now.secret pair.now.point channel (plain_reply reply.now)) }
 {
     let Some(proof) = proof_in(reply) else {
@@ -104,20 +114,22 @@ pub fn after_proof<C: Coprocessor>(plan: &Plan, pair: &Pair, reply: &Reply, copr
 }
 
 /// Selects the application.
-pub fn select(channel: Option<Channel>) -> Turn
-    ensures { (plan : PlainPlan) → Did plan result (course.select plan channel) }
+pub fn select(channel: Option<Channel>, message: &mut Message) -> Turn
+    ensures { (plan : PlainPlan) (heard : PlainReply) → Did plan (seen result message.new.items heard) (course.select plan channel) }
 {
     send(
         channel,
         Awaited::Chip(ChipCommand::Application),
         SELECT_APPLICATION,
         Known::Application.bytes(),
+        message,
     )
 }
 
 /// The application was selected.
 pub fn after_application(channel: Option<Channel>, reply: &Reply) -> Turn
-    ensures { (plan : PlainPlan) → Did plan result (expecting steps.Select (λ selected. Passes steps.Select
+    ensures { (plan : PlainPlan) (message : List ℕ) (heard : PlainReply) → Did plan (seen result message heard)
+        (expecting steps.Select (λ selected. Passes steps.Select
         (requests plan 0 plan.requests selected)) channel (plain_reply reply.now)) }
 {
     if !is_done(reply) {
@@ -133,13 +145,14 @@ pub fn hear<C: Coprocessor>(
     command: ChipCommand,
     reply: &Reply,
     copro: &mut C,
+    message: &mut Message,
 ) -> Turn
     requires { 1 ≤ (C.seen copro.old).spare }
-    ensures { let p = plan_view plan.now in
-        Comes (C.seen copro.old) (C.seen copro.new) p result (after_chip p command channel (plain_reply reply.now)) }
+    ensures { (heard : PlainReply) → let p = plan_view plan.now in
+        Comes (C.seen copro.old) (C.seen copro.new) p (seen result message.new.items heard) (after_chip p command channel (plain_reply reply.now)) }
 {
     match command {
-        ChipCommand::Selection { pair } => after_selection(channel, pair, reply),
+        ChipCommand::Selection { pair } => after_selection(channel, pair, reply, message),
         ChipCommand::Proof { pair } => after_proof(plan, &pair, reply, copro),
         ChipCommand::Application => after_application(channel, reply),
     }

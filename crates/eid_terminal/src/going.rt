@@ -1,17 +1,19 @@
 //! How a terminal goes on, by a reply or without one.
 ghost use Rattle.std.specs.Prelude.{◌≡◌, ◌≤◌, false, is_some};
 ghost use Rattle.std.specs.Option.{option_copied};
-ghost use Rattle.eid_apdu.specs.Answer.{plain_reply};
+ghost use Rattle.eid_apdu.specs.Answer.{PlainReply, plain_reply};
 ghost use Rattle.eid_terminal.specs.Plans.{IsFit, plan_view};
 ghost use Rattle.eid_terminal.specs.Terminals as terminals;
-ghost use Rattle.eid_terminal.specs.Terminals.{Goes, behind_pace, course, move_seen, with_password};
-ghost use Rattle.eid_terminal.specs.View.{Comes, Did, HasPlace, Heard, IsSound, later_of, ready_course, state_view, step_of, terms_view};
+ghost use Rattle.eid_terminal.specs.Terminals.{Goes, behind_pace, course, with_password};
+ghost use Rattle.eid_terminal.specs.View.{Comes, Did, HasPlace, Heard, IsSound, later_of, move_made, ready_course, seen, state_view, step_of, terms_view};
 
 use crate::action::Step;
 use crate::line::receive;
 use crate::plan::Plan;
 use crate::requests::{self, last_step};
-use crate::state::{Awaited, ChipCommand, Ready, Round, Standing, State, Terms, Turn, Waiting};
+use crate::state::{
+    Awaited, ChipCommand, Message, Ready, Round, Standing, State, Terms, Turn, Waiting,
+};
 use crate::turns::stopped;
 use crate::{authentication, chip, pace};
 use arrayvec::ArrayVec;
@@ -51,19 +53,19 @@ fn password_terms(plan: &Plan) -> Terms
 }
 
 /// Begins the PACE with the password.
-fn begin_with_password(plan: &Plan, channel: Option<Channel>) -> Turn
-    ensures { Did (plan_view plan.now) result (with_password (plan_view plan.now) channel) }
+fn begin_with_password(plan: &Plan, channel: Option<Channel>, message: &mut Message) -> Turn
+    ensures { (heard : PlainReply) → Did (plan_view plan.now) (seen result message.new.items heard) (with_password (plan_view plan.now) channel) }
 {
-    pace::begin(channel, Round::Password, password_terms(plan))
+    pace::begin(channel, Round::Password, password_terms(plan), message)
 }
 
 /// Begins the first PACE.
-fn begin(plan: &Plan) -> Turn
-    ensures { Did (plan_view plan.now) result (course (plan_view plan.now)) }
+fn begin(plan: &Plan, message: &mut Message) -> Turn
+    ensures { (heard : PlainReply) → Did (plan_view plan.now) (seen result message.new.items heard) (course (plan_view plan.now)) }
 {
     match &plan.can_first {
-        Some(can) => pace::begin(None, Round::Can, can_terms(can)),
-        None => begin_with_password(plan, None),
+        Some(can) => pace::begin(None, Round::Can, can_terms(can), message),
+        None => begin_with_password(plan, None, message),
     }
 }
 
@@ -74,31 +76,34 @@ fn go_on_behind_pace<C: Coprocessor>(
     channel: Option<Channel>,
     identity: [u8; 32],
     copro: &mut C,
+    message: &mut Message,
 ) -> Turn
     requires fit { IsFit (plan_view plan.now) }
     requires room { 1 ≤ (C.seen copro.old).spare }
-    ensures { Comes (C.seen copro.old) (C.seen copro.new) (plan_view plan.now) result (behind_pace (plan_view plan.now) channel identity) }
+    ensures { (heard : PlainReply) → Comes (C.seen copro.old) (C.seen copro.new) (plan_view plan.now) (seen result message.new.items heard)
+        (behind_pace (plan_view plan.now) channel identity) }
 {
     if plan.certificates.as_slice().is_empty() {
-        return requests::ask(plan, channel, 0);
+        return requests::ask(plan, channel, 0, message);
     }
-    authentication::import(plan, channel, identity, 0, copro)
+    authentication::import(plan, channel, identity, 0, copro, message)
 }
 
 /// Goes on without a reply.
-fn go_on<C: Coprocessor>(plan: &Plan, ready: Ready, copro: &mut C) -> Turn
+fn go_on<C: Coprocessor>(plan: &Plan, ready: Ready, copro: &mut C, message: &mut Message) -> Turn
     requires fit { IsFit (plan_view plan.now) }
     requires room { 1 ≤ (C.seen copro.old).spare }
-    ensures { Comes (C.seen copro.old) (C.seen copro.new) (plan_view plan.now) result (ready_course (plan_view plan.now) ready.standing ready.channel) }
+    ensures { (heard : PlainReply) → Comes (C.seen copro.old) (C.seen copro.new) (plan_view plan.now) (seen result message.new.items heard)
+        (ready_course (plan_view plan.now) ready.standing ready.channel) }
 {
     let Ready { channel, standing } = ready;
     match standing {
-        Standing::Start => begin(plan),
-        Standing::OpenedByCan => begin_with_password(plan, channel),
-        Standing::Opened { identity } => go_on_behind_pace(plan, channel, identity, copro),
-        Standing::TerminalProven { pair } => chip::begin(channel, pair),
-        Standing::ChipProven => chip::select(channel),
-        Standing::Requests { place } => requests::ask(plan, channel, place),
+        Standing::Start => begin(plan, message),
+        Standing::OpenedByCan => begin_with_password(plan, channel, message),
+        Standing::Opened { identity } => go_on_behind_pace(plan, channel, identity, copro, message),
+        Standing::TerminalProven { pair } => chip::begin(channel, pair, message),
+        Standing::ChipProven => chip::select(channel, message),
+        Standing::Requests { place } => requests::ask(plan, channel, place, message),
     }
 }
 
@@ -120,51 +125,61 @@ fn hear<C: Coprocessor>(
     plan: &Plan,
     channel: Option<Channel>,
     awaited: Awaited,
-    reply: Reply,
+    reply: &Reply,
     copro: &mut C,
+    message: &mut Message,
 ) -> Turn
     requires fit { IsFit (plan_view plan.now) }
     requires there { HasPlace (plan_view plan.now) awaited }
     requires room { 2 ≤ (C.seen copro.old).spare }
     ensures { let p = plan_view plan.now in
-        Comes (C.seen copro.old) (C.seen copro.new) p result (later_of p awaited channel (plain_reply reply)) }
+        Comes (C.seen copro.old) (C.seen copro.new) p (seen result message.new.items (plain_reply reply.now))
+        (later_of p awaited channel (plain_reply reply.now)) }
 {
     match awaited {
-        Awaited::Pace(command) => pace::hear(channel, command, &reply, copro),
-        Awaited::Terminal(command) => authentication::hear(plan, channel, command, &reply, copro),
-        Awaited::Chip(command) => chip::hear(plan, channel, command, &reply, copro),
-        Awaited::Request(command) => requests::hear(plan, channel, command, reply),
+        Awaited::Pace(command) => pace::hear(channel, command, reply, copro, message),
+        Awaited::Terminal(command) => authentication::hear(
+            plan, channel, command, reply, copro, message,
+        ),
+        Awaited::Chip(command) => chip::hear(plan, channel, command, reply, copro, message),
+        Awaited::Request(command) => requests::hear(plan, channel, command, reply, message),
     }
 }
 
-/// Goes on by bytes that may be a reply.
+/// Goes on by bytes that may be a reply, which is then heard.
 fn receive_and_hear<C: Coprocessor>(
     plan: &Plan,
     waiting: Waiting,
     bytes: &[u8],
     copro: &mut C,
+    message: &mut Message,
+    heard: &mut Reply,
 ) -> Turn
     requires fit { IsFit (plan_view plan.now) }
     requires there { HasPlace (plan_view plan.now) waiting.awaited }
     requires room { 2 ≤ (C.seen copro.old).spare }
-    ensures { Heard (C.seen copro.old) (C.seen copro.new) (plan_view plan.now) waiting bytes.now result }
+    ensures { Heard (C.seen copro.old) (C.seen copro.new) (plan_view plan.now) waiting bytes.now
+        (seen result message.new.items (plain_reply heard.new)) }
 {
     let Waiting {
         mut channel,
         awaited,
     } = waiting;
-    match receive(&mut channel, bytes) {
-        Some(reply) => hear(plan, channel, awaited, reply, copro),
-        None => stopped(step_of(plan, &awaited), NO_STATUS),
+    if !receive(&mut channel, bytes, heard) {
+        return stopped(step_of(plan, &awaited), NO_STATUS);
     }
+    hear(plan, channel, awaited, heard, copro, message)
 }
 
-/// Takes a turn: goes on by the reply where one is due, and else without.
+/// Takes a turn: goes on by the reply where one is due, and else without. Where a command is sent, `message` is made its
+/// bytes, and `heard` the reply where one is due and can be read.
 pub fn take_turn<C: Coprocessor>(
     plan: &Plan,
     state: State,
     reply: Option<&[u8]>,
     copro: &mut C,
+    message: &mut Message,
+    heard: &mut Reply,
 ) -> Turn
     requires fit { IsFit (plan_view plan.now) }
     requires there { IsSound (plan_view plan.now) state }
@@ -172,12 +187,19 @@ pub fn take_turn<C: Coprocessor>(
     requires due { is_some reply ≡ (state_view (plan_view plan.now) state).waits }
     requires room { 2 ≤ (C.seen copro.old).spare }
     ensures goes { let p = plan_view plan.now in Goes (C.seen copro.old) (C.seen copro.new) (state_view p state) (state_view p result.state)
-        (option_copied reply.entry) (move_seen result.action) }
+        (option_copied reply.entry) (move_made result.deed message.new.items (plain_reply heard.new)) }
     ensures there { IsSound (plan_view plan.now) result.state }
 {
     match state {
-        State::Ready(ready) => go_on(plan, ready, copro),
-        State::Waiting(waiting) => receive_and_hear(plan, waiting, reply.unwrap(), copro),
+        State::Ready(ready) => go_on(plan, ready, copro, message),
+        State::Waiting(waiting) => receive_and_hear(
+            plan,
+            waiting,
+            reply.unwrap(),
+            copro,
+            message,
+            heard,
+        ),
         State::Ended(_) => unreachable!(),
     }
 }

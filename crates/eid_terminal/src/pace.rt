@@ -1,19 +1,19 @@
 //! PACE (BSI TR-03110-2 and TR-03110-3, generic mapping).
-ghost use Rattle.std.specs.Prelude.{◌≡◌, ◌≤◌, Option};
-ghost use Rattle.eid_apdu.specs.Answer.{plain_reply};
+ghost use Rattle.std.specs.Prelude.{◌≡◌, ◌≤◌, Option, ℕ, List};
+ghost use Rattle.eid_apdu.specs.Answer.{PlainReply, plain_reply};
 ghost use Rattle.eid_pace.specs.Keys as keys;
 ghost use Rattle.eid_sm.specs.Keys.{ChannelState};
 ghost use Rattle.eid_terminal.specs.Pace as course;
 ghost use Rattle.eid_terminal.specs.Pace.{channel_under, decrypted_nonce, token_for};
 ghost use Rattle.eid_terminal.specs.Plans.{PlainPlan};
-ghost use Rattle.eid_terminal.specs.View.{Comes, Did, after_pace, opened_after, ready_course, terms_view};
+ghost use Rattle.eid_terminal.specs.View.{Comes, Did, after_pace, opened_after, ready_course, seen, terms_view};
 
 use crate::action::Step;
 use crate::bodies::{authentication_data, no_data, pace_selection};
 use crate::headers::{AUTHENTICATE, AUTHENTICATE_CHAINED, SELECT_PACE};
 use crate::line::send;
 use crate::replies::{is_pace_selected, point_in, token_in, value_in};
-use crate::state::{Awaited, PaceCommand, Pair, Round, Standing, Terms, Turn};
+use crate::state::{Awaited, Message, PaceCommand, Pair, Round, Standing, Terms, Turn};
 use crate::turns::{failed, passed, stopped};
 use arrayvec::ArrayVec;
 use eid_aes::Aes;
@@ -68,8 +68,9 @@ fn channel_under(shared: &[u8; 32]) -> Option<Channel>
 
 /// Begins a PACE: the password is chosen.
 #[tactic(auto, unfolding(crate::specs::Pace::pace, crate::specs::Exchanges::exchange))]
-pub fn begin(channel: Option<Channel>, round: Round, terms: Terms) -> Turn
-    ensures { (plan : PlainPlan) → Did plan result (course.pace (terms_view terms) (opened_after plan round) channel) }
+pub fn begin(channel: Option<Channel>, round: Round, terms: Terms, message: &mut Message) -> Turn
+    ensures { (plan : PlainPlan) (heard : PlainReply) → Did plan (seen result message.new.items heard)
+        (course.pace (terms_view terms) (opened_after plan round) channel) }
 {
     let body = pace_selection(&terms);
     send(
@@ -77,6 +78,7 @@ pub fn begin(channel: Option<Channel>, round: Round, terms: Terms) -> Turn
         Awaited::Pace(PaceCommand::Selection { round, terms }),
         SELECT_PACE,
         &body,
+        message,
     )
 }
 
@@ -87,8 +89,10 @@ pub fn after_selection(
     round: Round,
     digits: ArrayVec<u8, 10>,
     reply: &Reply,
+    message: &mut Message,
 ) -> Turn
-    ensures { (plan : PlainPlan) → Did plan result (course.after_selection digits.items (opened_after plan round) channel (plain_reply reply.now)) }
+    ensures { (plan : PlainPlan) (heard : PlainReply) → Did plan (seen result message.new.items heard)
+        (course.after_selection digits.items (opened_after plan round) channel (plain_reply reply.now)) }
 {
     if !is_pace_selected(reply) {
         return stopped(Step::Pace, reply.status);
@@ -98,6 +102,7 @@ pub fn after_selection(
         Awaited::Pace(PaceCommand::Nonce { round, digits }),
         AUTHENTICATE_CHAINED,
         &no_data(),
+        message,
     )
 }
 
@@ -108,16 +113,17 @@ pub fn after_nonce<C: Coprocessor>(
     digits: &[u8],
     reply: &Reply,
     copro: &mut C,
+    message: &mut Message,
 ) -> Turn
     requires { 1 ≤ (C.seen copro.old).spare }
-    ensures { (plan : PlainPlan) → Comes (C.seen copro.old) (C.seen copro.new) plan result
+    ensures { (plan : PlainPlan) (heard : PlainReply) → Comes (C.seen copro.old) (C.seen copro.new) plan (seen result message.new.items heard)
         (course.after_nonce digits.now (opened_after plan round) channel (plain_reply reply.now)) }
 {
     let Some(encrypted) = value_in::<16>(reply, NONCE) else {
         return stopped(Step::Pace, reply.status);
     };
     let nonce = decrypted_nonce(digits, &encrypted);
-    send_mapping(channel, round, nonce, copro)
+    send_mapping(channel, round, nonce, copro, message)
 }
 
 /// Draws a pair over the generator, and sends its point.
@@ -126,9 +132,11 @@ fn send_mapping<C: Coprocessor>(
     round: Round,
     nonce: [u8; 16],
     copro: &mut C,
+    message: &mut Message,
 ) -> Turn
     requires { 1 ≤ (C.seen copro.old).spare }
-    ensures { (plan : PlainPlan) → Comes (C.seen copro.old) (C.seen copro.new) plan result (course.with_nonce nonce (opened_after plan round) channel) }
+    ensures { (plan : PlainPlan) (heard : PlainReply) → Comes (C.seen copro.old) (C.seen copro.new) plan (seen result message.new.items heard)
+        (course.with_nonce nonce (opened_after plan round) channel) }
 {
     let Ok(pair) = copro.pair(None) else {
         return failed(Step::Pace);
@@ -140,6 +148,7 @@ fn send_mapping<C: Coprocessor>(
         Awaited::Pace(PaceCommand::Mapping { round, nonce, pair }),
         AUTHENTICATE_CHAINED,
         &authentication_data(MAPPING, &point),
+        message,
     )
 }
 
@@ -151,9 +160,10 @@ pub fn after_mapping<C: Coprocessor>(
     pair: &Pair,
     reply: &Reply,
     copro: &mut C,
+    message: &mut Message,
 ) -> Turn
     requires { 2 ≤ (C.seen copro.old).spare }
-    ensures { (plan : PlainPlan) → Comes (C.seen copro.old) (C.seen copro.new) plan result
+    ensures { (plan : PlainPlan) (heard : PlainReply) → Comes (C.seen copro.old) (C.seen copro.new) plan (seen result message.new.items heard)
         (course.after_mapping nonce.now pair.now.secret pair.now.point (opened_after plan round) channel (plain_reply reply.now)) }
 {
     let Some(peer) = point_in(reply, MAPPING_REPLY) else {
@@ -168,7 +178,7 @@ pub fn after_mapping<C: Coprocessor>(
     let Some(base) = mapping else {
         return stopped(Step::Pace, reply.status);
     };
-    send_ephemeral(channel, round, &base, copro)
+    send_ephemeral(channel, round, &base, copro, message)
 }
 
 /// Draws an ephemeral pair over the base, and sends its point.
@@ -177,9 +187,11 @@ fn send_ephemeral<C: Coprocessor>(
     round: Round,
     base: &Point,
     copro: &mut C,
+    message: &mut Message,
 ) -> Turn
     requires { 1 ≤ (C.seen copro.old).spare }
-    ensures { (plan : PlainPlan) → Comes (C.seen copro.old) (C.seen copro.new) plan result (course.with_base base.now (opened_after plan round) channel) }
+    ensures { (plan : PlainPlan) (heard : PlainReply) → Comes (C.seen copro.old) (C.seen copro.new) plan (seen result message.new.items heard)
+        (course.with_base base.now (opened_after plan round) channel) }
 {
     let Ok(pair) = copro.pair(Some(base)) else {
         return failed(Step::Pace);
@@ -191,6 +203,7 @@ fn send_ephemeral<C: Coprocessor>(
         Awaited::Pace(PaceCommand::Agreement { round, pair }),
         AUTHENTICATE_CHAINED,
         &authentication_data(EPHEMERAL, &point),
+        message,
     )
 }
 
@@ -201,9 +214,10 @@ pub fn after_agreement<C: Coprocessor>(
     pair: &Pair,
     reply: &Reply,
     copro: &mut C,
+    message: &mut Message,
 ) -> Turn
     requires { 1 ≤ (C.seen copro.old).spare }
-    ensures { (plan : PlainPlan) → Comes (C.seen copro.old) (C.seen copro.new) plan result
+    ensures { (plan : PlainPlan) (heard : PlainReply) → Comes (C.seen copro.old) (C.seen copro.new) plan (seen result message.new.items heard)
         (course.after_agreement pair.now.secret pair.now.point (opened_after plan round) channel (plain_reply reply.now)) }
 {
     let Some(peer) = point_in(reply, EPHEMERAL_REPLY) else {
@@ -229,6 +243,7 @@ pub fn after_agreement<C: Coprocessor>(
         }),
         AUTHENTICATE,
         &authentication_data(TOKEN, &token_for(&shared, &peer)),
+        message,
     )
 }
 
@@ -251,7 +266,7 @@ pub fn after_token(
     peer: &Point,
     reply: &Reply,
 ) -> Turn
-    ensures { (plan : PlainPlan) (channel : Option ChannelState) → Did plan result
+    ensures { (plan : PlainPlan) (message : List ℕ) (heard : PlainReply) (channel : Option ChannelState) → Did plan (seen result message heard)
         (course.after_token shared.now point.now peer.now (opened_after plan round) channel (plain_reply reply.now)) }
 {
     let Some(found) = token_in(reply) else {
@@ -273,20 +288,24 @@ pub fn hear<C: Coprocessor>(
     command: PaceCommand,
     reply: &Reply,
     copro: &mut C,
+    message: &mut Message,
 ) -> Turn
     requires { 2 ≤ (C.seen copro.old).spare }
-    ensures { (plan : PlainPlan) → Comes (C.seen copro.old) (C.seen copro.new) plan result (after_pace plan command channel (plain_reply reply.now)) }
+    ensures { (plan : PlainPlan) (heard : PlainReply) → Comes (C.seen copro.old) (C.seen copro.new) plan (seen result message.new.items heard)
+        (after_pace plan command channel (plain_reply reply.now)) }
 {
     match command {
         PaceCommand::Selection { round, terms } => {
-            after_selection(channel, round, terms.digits, reply)
+            after_selection(channel, round, terms.digits, reply, message)
         }
-        PaceCommand::Nonce { round, digits } => after_nonce(channel, round, &digits, reply, copro),
+        PaceCommand::Nonce { round, digits } => after_nonce(
+            channel, round, &digits, reply, copro, message,
+        ),
         PaceCommand::Mapping { round, nonce, pair } => {
-            after_mapping(channel, round, &nonce, &pair, reply, copro)
+            after_mapping(channel, round, &nonce, &pair, reply, copro, message)
         }
         PaceCommand::Agreement { round, pair } => {
-            after_agreement(channel, round, &pair, reply, copro)
+            after_agreement(channel, round, &pair, reply, copro, message)
         }
         PaceCommand::Token {
             round,

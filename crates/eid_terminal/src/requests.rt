@@ -1,19 +1,19 @@
 //! The requests, one after the other (BSI TR-03110-2 and TR-03110-4).
-ghost use Rattle.std.specs.Prelude.{◌≡◌, ◌+◌, ◌≤◌, ◌<◌, length, slice_get, IsSome};
-ghost use Rattle.eid_apdu.specs.Answer.{plain_reply};
+ghost use Rattle.std.specs.Prelude.{◌≡◌, ◌+◌, ◌≤◌, ◌<◌, length, slice_get, IsSome, ℕ, List};
+ghost use Rattle.eid_apdu.specs.Answer.{PlainReply, plain_reply};
 ghost use Rattle.eid_sm.specs.Keys.{ChannelState};
 ghost use Rattle.eid_terminal.specs.Courses.{Gives};
 ghost use Rattle.eid_terminal.specs.Plans.{CanBeAsked, IsFit, PlainPlan, plan_view};
 ghost use Rattle.eid_terminal.specs.Requests.{after_command, after_identification, after_protocol, lacks_identifier, last_step, sector_of};
-ghost use Rattle.eid_terminal.specs.View.{Did, HasRequest, after_request, requests_from};
+ghost use Rattle.eid_terminal.specs.View.{Did, HasRequest, after_request, requests_from, seen};
 
-use crate::action::{Action, Step};
+use crate::action::Step;
 use crate::bodies::{authentication_data, protocol_selection, verification};
 use crate::headers::{AUTHENTICATE, SELECT_PROTOCOL, VERIFY};
 use crate::line::send;
 use crate::plan::{Plan, Request};
 use crate::replies::{is_success, value_in};
-use crate::state::{Awaited, Ending, Ready, RequestCommand, Standing, State, Turn};
+use crate::state::{Awaited, Deed, Ending, Message, Ready, RequestCommand, Standing, State, Turn};
 use crate::turns::stopped;
 use eid_apdu::Reply;
 use eid_bits::Known;
@@ -46,27 +46,46 @@ fn request_at(plan: &Plan, place: u8) -> Option<Request>
 }
 
 /// Sends the first command of the request at this place; behind the last one all is done.
-pub fn ask(plan: &Plan, channel: Option<Channel>, place: u8) -> Turn
+pub fn ask(plan: &Plan, channel: Option<Channel>, place: u8, message: &mut Message) -> Turn
     requires { IsFit (plan_view plan.now) }
-    ensures { Did (plan_view plan.now) result (requests_from (plan_view plan.now) place channel) }
+    ensures { (heard : PlainReply) → Did (plan_view plan.now) (seen result message.new.items heard) (requests_from (plan_view plan.now) place channel) }
 {
     let Some(request) = request_at(plan, place) else {
         return Turn {
             state: State::Ended(Ending::Done),
-            action: Action::Done,
+            deed: Deed::Done,
         };
     };
     let awaited = Awaited::Request(RequestCommand::First { request, place });
     match request {
-        Request::File(number) => send(channel, awaited, read(number), &[]),
-        Request::Age => send(channel, awaited, VERIFY, &verification(Known::Birth)),
-        Request::Validity => send(channel, awaited, VERIFY, &verification(Known::Expiry)),
-        Request::Community => send(channel, awaited, VERIFY, &verification(Known::Community)),
+        Request::File(number) => send(channel, awaited, read(number), &[], message),
+        Request::Age => send(
+            channel,
+            awaited,
+            VERIFY,
+            &verification(Known::Birth),
+            message,
+        ),
+        Request::Validity => send(
+            channel,
+            awaited,
+            VERIFY,
+            &verification(Known::Expiry),
+            message,
+        ),
+        Request::Community => send(
+            channel,
+            awaited,
+            VERIFY,
+            &verification(Known::Community),
+            message,
+        ),
         Request::Ri => send(
             channel,
             awaited,
             SELECT_PROTOCOL,
             &protocol_selection(Known::RiSha256),
+            message,
         ),
     }
 }
@@ -85,18 +104,16 @@ fn read(number: u8) -> Header
     }
 }
 
-/// The reply is the result of the request at this place.
-fn give(channel: Option<Channel>, place: u8, reply: Reply) -> Turn
+/// The reply that was heard is the result of the request at this place.
+fn give(channel: Option<Channel>, place: u8) -> Turn
     requires { place < 255 }
-    ensures { (plan : PlainPlan) → Did plan result (Gives place (plain_reply reply) (requests_from plan (place + 1) channel)) }
+    ensures { (plan : PlainPlan) (message : List ℕ) (heard : PlainReply) → Did plan (seen result message heard)
+        (Gives place heard (requests_from plan (place + 1) channel)) }
 {
     let standing = Standing::Requests { place: place + 1 };
     Turn {
         state: State::Ready(Ready { channel, standing }),
-        action: Action::Result {
-            request: place,
-            reply,
-        },
+        deed: Deed::Result { request: place },
     }
 }
 
@@ -106,30 +123,39 @@ pub fn after_answer(
     channel: Option<Channel>,
     request: Request,
     place: u8,
-    reply: Reply,
+    reply: &Reply,
+    message: &mut Message,
 ) -> Turn
     requires fit { IsFit (plan_view plan.now) }
     requires there { place < length (plan_view plan.now).requests }
     requires asked { CanBeAsked (plan_view plan.now).sector request }
     ensures { let p = plan_view plan.now in
-        Did p result (after_command (last_step p) (sector_of p) place request (requests_from p (place + 1)) channel (plain_reply reply)) }
+        Did p (seen result message.new.items (plain_reply reply.now))
+        (after_command (last_step p) (sector_of p) place request (requests_from p (place + 1)) channel (plain_reply reply.now)) }
 {
     match request {
-        Request::Ri => after_protocol(plan, channel, place, reply),
-        _ => give(channel, place, reply),
+        Request::Ri => after_protocol(plan, channel, place, reply, message),
+        _ => give(channel, place),
     }
 }
 
 /// Restricted identification was selected: sends the sector key.
-fn after_protocol(plan: &Plan, channel: Option<Channel>, place: u8, reply: Reply) -> Turn
+fn after_protocol(
+    plan: &Plan,
+    channel: Option<Channel>,
+    place: u8,
+    reply: &Reply,
+    message: &mut Message,
+) -> Turn
     requires fit { IsFit (plan_view plan.now) }
     requires there { place < length (plan_view plan.now).requests }
     requires sector { IsSome (plan_view plan.now).sector }
     ensures { let p = plan_view plan.now in
-        Did p result (after_protocol (last_step p) (sector_of p) place (requests_from p (place + 1)) channel (plain_reply reply)) }
+        Did p (seen result message.new.items (plain_reply reply.now))
+        (after_protocol (last_step p) (sector_of p) place (requests_from p (place + 1)) channel (plain_reply reply.now)) }
 {
-    if !is_success(&reply) {
-        return give(channel, place, reply);
+    if !is_success(reply) {
+        return give(channel, place);
     }
     let sector = plan.sector.as_ref().unwrap();
     let body = authentication_data(SECTOR, &token_object(Known::RiSha256, sector));
@@ -138,6 +164,7 @@ fn after_protocol(plan: &Plan, channel: Option<Channel>, place: u8, reply: Reply
         Awaited::Request(RequestCommand::Sector { place }),
         AUTHENTICATE,
         &body,
+        message,
     )
 }
 
@@ -149,27 +176,35 @@ fn lacks_identifier(reply: &Reply) -> bool
 }
 
 /// The reply to the sector key came: a success has to hold the identifier.
-pub fn after_identifier(plan: &Plan, channel: Option<Channel>, place: u8, reply: Reply) -> Turn
+pub fn after_identifier(plan: &Plan, channel: Option<Channel>, place: u8, reply: &Reply) -> Turn
     requires fit { IsFit (plan_view plan.now) }
     requires there { place < length (plan_view plan.now).requests }
-    ensures { let p = plan_view plan.now in
-        Did p result (after_identification (last_step p) place (requests_from p (place + 1)) channel (plain_reply reply)) }
+    ensures { (message : List ℕ) → let p = plan_view plan.now in
+        Did p (seen result message (plain_reply reply.now))
+        (after_identification (last_step p) place (requests_from p (place + 1)) channel (plain_reply reply.now)) }
 {
-    if lacks_identifier(&reply) {
+    if lacks_identifier(reply) {
         return stopped(last_step(plan), reply.status);
     }
-    give(channel, place, reply)
+    give(channel, place)
 }
 
 /// Goes on by the reply to a command of a request.
-pub fn hear(plan: &Plan, channel: Option<Channel>, command: RequestCommand, reply: Reply) -> Turn
+pub fn hear(
+    plan: &Plan,
+    channel: Option<Channel>,
+    command: RequestCommand,
+    reply: &Reply,
+    message: &mut Message,
+) -> Turn
     requires fit { IsFit (plan_view plan.now) }
     requires there { HasRequest (plan_view plan.now) command }
-    ensures { let p = plan_view plan.now in Did p result (after_request p command channel (plain_reply reply)) }
+    ensures { let p = plan_view plan.now in Did p (seen result message.new.items (plain_reply reply.now))
+        (after_request p command channel (plain_reply reply.now)) }
 {
     match command {
         RequestCommand::First { request, place } => {
-            after_answer(plan, channel, request, place, reply)
+            after_answer(plan, channel, request, place, reply, message)
         }
         RequestCommand::Sector { place } => after_identifier(plan, channel, place, reply),
     }

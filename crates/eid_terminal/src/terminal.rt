@@ -1,13 +1,36 @@
 //! The terminal as a state machine: it sends commands, asks a coprocessor, and goes on by what is answered.
+ghost use Rattle.std.specs.Prelude.{◌≡◌};
+ghost use Rattle.eid_apdu.specs.Answer.{plain_reply};
 ghost use Rattle.eid_terminal.specs.Plans.{IsFit, plan_view};
-ghost use Rattle.eid_terminal.specs.View.{IsSound};
+ghost use Rattle.eid_terminal.specs.Terminals.{move_seen};
+ghost use Rattle.eid_terminal.specs.View.{IsSound, move_made};
 
 use crate::action::Action;
 use crate::going::take_turn;
 use crate::plan::Plan;
-use crate::state::{Ending, Ready, Standing, State};
+use crate::state::{Deed, Ending, Message, Ready, Standing, State};
+use arrayvec::ArrayVec;
+use eid_apdu::Reply;
+use eid_base::Status;
 use eid_copro::Coprocessor;
 use std::mem;
+
+/// The action that a turn comes to, with the bytes that it wrote and the reply that it heard.
+fn action_of(deed: Deed, message: Message, heard: Reply) -> Action
+    ensures { move_seen result ≡ move_made deed message.items (plain_reply heard) }
+{
+    match deed {
+        Deed::Send => Action::Send(message),
+        Deed::Result { request } => Action::Result {
+            request,
+            reply: heard,
+        },
+        Deed::Passed { step } => Action::Passed { step },
+        Deed::Done => Action::Done,
+        Deed::Stopped { step, status } => Action::Stopped { step, status },
+        Deed::Fault { step } => Action::Fault { step },
+    }
+}
 
 /// A terminal that carries out a plan.
 #[derive(Drop)]
@@ -61,9 +84,14 @@ impl Terminal {
         ensures { Goes (C.seen copro.old) (C.seen copro.new) (terminal_view self.old) (terminal_view self.new)
             (option_copied reply.entry) (move_seen result) }
     {
+        let mut message = ArrayVec::new();
+        let mut heard = Reply {
+            content: ArrayVec::new(),
+            status: Status(0),
+        };
         let state = mem::replace(&mut self.state, State::Ended(Ending::Done));
-        let turn = take_turn(&self.plan, state, reply, copro);
+        let turn = take_turn(&self.plan, state, reply, copro, &mut message, &mut heard);
         self.state = turn.state;
-        turn.action
+        action_of(turn.deed, message, heard)
     }
 }

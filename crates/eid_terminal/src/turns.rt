@@ -1,41 +1,43 @@
 //! How a turn of the terminal ends, where it sends nothing.
-ghost use Rattle.eid_apdu.specs.Answer.{plain_reply};
+ghost use Rattle.std.specs.Prelude.{ℕ, List};
+ghost use Rattle.eid_apdu.specs.Answer.{PlainReply, plain_reply};
 ghost use Rattle.eid_terminal.specs.Courses.{Passes, Gives, Stops, Faults, Ends};
 ghost use Rattle.eid_terminal.specs.Plans.{PlainPlan};
-ghost use Rattle.eid_terminal.specs.View.{Did, ready_course};
+ghost use Rattle.eid_terminal.specs.View.{Did, ready_course, seen};
 
-use crate::action::{Action, Step};
-use crate::state::{Ending, Ready, Standing, State, Turn};
+use crate::action::Step;
+use crate::state::{Deed, Ending, Ready, Standing, State, Turn};
 use eid_apdu::Reply;
 use eid_base::Status;
 use eid_sm::Channel;
 
 /// A step succeeded.
 pub fn passed(channel: Option<Channel>, step: Step, standing: Standing) -> Turn
-    ensures { (plan : PlainPlan) → Did plan result (Passes step (ready_course plan standing channel)) }
+    ensures { (plan : PlainPlan) (message : List ℕ) (heard : PlainReply) → Did plan (seen result message heard)
+        (Passes step (ready_course plan standing channel)) }
 {
     Turn {
         state: State::Ready(Ready { channel, standing }),
-        action: Action::Passed { step },
+        deed: Deed::Passed { step },
     }
 }
 
 /// A step did not succeed.
 pub fn stopped(step: Step, status: Status) -> Turn
-    ensures { (plan : PlainPlan) → Did plan result (Stops step status.0) }
+    ensures { (plan : PlainPlan) (message : List ℕ) (heard : PlainReply) → Did plan (seen result message heard) (Stops step status.0) }
 {
     Turn {
         state: State::Ended(Ending::Stopped { step, status }),
-        action: Action::Stopped { step, status },
+        deed: Deed::Stopped { step, status },
     }
 }
 
 /// The coprocessor failed.
 pub fn failed(step: Step) -> Turn
-    ensures { (plan : PlainPlan) → Did plan result (Faults step) }
+    ensures { (plan : PlainPlan) (message : List ℕ) (heard : PlainReply) → Did plan (seen result message heard) (Faults step) }
 {
     Turn {
         state: State::Ended(Ending::Fault { step }),
-        action: Action::Fault { step },
+        deed: Deed::Fault { step },
     }
 }

@@ -22,7 +22,7 @@ returns-clause-met c =
     let met = is_met c.args.number plan c.args.cells.items (memory_cells c.converse-met.new.cells) copros (memory_device c.converse-met.new.cells) c.in-Ok.tally
     (c.new-chip_copro.ensures.told ∙ ap (λ (n : ℕ). Start n) c.from-start.ensures) (c.new-terminal_copro.ensures.told ∙ ap (λ (n : ℕ). Start (inverted n)) c.from-start.ensures)
     c.new-chip_copro.ensures.log c.new-terminal_copro.ensures.log c.converse-met.new.chip_copro.answered c.converse-met.new.terminal_copro.answered c.requires.stands did in
-    subst (λ (left : List ℕ). Met c.args.number plan c.args.cells.items left c.in-Ok.tally) (sym (c.in_ok-cells.ensures.items ∙ c.cells.ensures)) met
+    subst (λ (left : List ℕ). Met c.args.number plan c.args.cells.items left c.in-Ok.tally) (sym c.into_cells.ensures) met
 
 pub returns-clause-stands : goal.returns-clause-stands
-returns-clause-stands c = met_stands c.args.number (plan_view c.args.plan) c.args.cells.items c.in_ok-cells.cells.items c.in-Ok.tally (returns-clause-met c)
+returns-clause-stands c = met_stands c.args.number (plan_view c.args.plan) c.args.cells.items c.into_cells.result.items c.in-Ok.tally (returns-clause-met c)

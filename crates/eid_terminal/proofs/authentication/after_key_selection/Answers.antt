@@ -13,7 +13,7 @@ pub unwrap-certificate-requires : goal.unwrap-certificate-requires
 unwrap-certificate-requires c = some_within (plan_view c.args.plan.now).certificates c.args.place c.certificate_at.result c.certificate_at.ensures c.requires.there
 
 pub returns-then-not-is_done : goal.returns-then-not-is_done
-returns-then-not-is_done c = did_at (plan_view c.args.plan.now) _ _ _ (unexpected _ _ _ _ (sym c.if-not-is_done.ensures)) (c.stopped.ensures (plan_view c.args.plan.now))
+returns-then-not-is_done c heard = did_at (plan_view c.args.plan.now) _ _ _ (unexpected _ _ _ _ (sym c.if-not-is_done.ensures)) (c.stopped.ensures (plan_view c.args.plan.now) _ _)
 
 pub send-requires-clause-body : goal.send-requires-clause-body
 send-requires-clause-body c =
@@ -21,8 +21,8 @@ send-requires-clause-body c =
     is_short (plan_view c.args.plan.now).certificates c.args.place c.unwrap-certificate.result.now found c.requires.fit.certificates
 
 pub returns : goal.returns
-returns c =
+returns c heard =
     let found = sym c.certificate_at.ensures ∙ ap option_copied c.unwrap-certificate.ensures in
     let same = found_at (plan_view c.args.plan.now).certificates c.args.place c.unwrap-certificate.result.now found in
     did_at (plan_view c.args.plan.now) _ _ _ (expected _ _ _ _ (sym c.if-not-is_done.ensures) ∙ exchanged _ _ _ _)
-    (c.send.ensures (plan_view c.args.plan.now) (ap import_certificate (sym same)) c.requires.there)
+    (c.send.ensures (plan_view c.args.plan.now) _ (ap import_certificate (sym same)) c.requires.there)

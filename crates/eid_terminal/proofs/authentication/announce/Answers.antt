@@ -12,10 +12,10 @@ use Rattle.eid_terminal.proofs.AuthenticationSteps.{announcement_drawn}
 use Rattle.eid_terminal.proofs.authentication.announce.Goals as goal
 
 pub returns-in_default : goal.returns-in_default
-returns-in_default g c = came_fault _ _ (plan_view c.args.plan.now) _ _ _ _ _ (announcement_drawn _ _ _) refl c.in_default.ensures (c.failed.ensures (plan_view c.args.plan.now))
+returns-in_default g c heard = came_fault _ _ (plan_view c.args.plan.now) _ _ _ _ _ (announcement_drawn _ _ _) refl c.in_default.ensures (c.failed.ensures (plan_view c.args.plan.now) _ _)
 
 pub returns : goal.returns
-returns g c =
+returns g c heard =
     let plan = plan_view c.args.plan.now in
     let name = c.last_holder-name.ensures.name ∙ ap (λ (certificates : List (Vec ℕ Global)). last_holder (map certificate_bytes certificates)) c.deref.ensures.value in
     let extra = c.deref-2.ensures.0 ∙ c.auxiliary.ensures.items in
@@ -24,4 +24,4 @@ returns g c =
     ∙ ap (λ x. announcement (last_holder plan.certificates) x c.deref-2.result.now) c.x_half.ensures
     ∙ ap (λ a. announcement (last_holder plan.certificates) (x_half c.in-Ok.pair.1) a) extra in
     came_by _ _ _ plan _ _ _ _ _ (announcement_drawn _ _ _) c.in-Ok.ensures refl
-    (came_now _ plan _ _ _ (exchanged _ _ _ _) refl (c.send.ensures plan (ap (λ b. command 0x00 0x22 0x81 0xA4 b 0) body) tt))
+    (came_now _ plan _ _ _ (exchanged _ _ _ _) refl (c.send.ensures plan _ (ap (λ b. command 0x00 0x22 0x81 0xA4 b 0) body) tt))

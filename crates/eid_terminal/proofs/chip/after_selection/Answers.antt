@@ -7,9 +7,9 @@ use Rattle.eid_terminal.proofs.AuthenticationSteps.{expected, unexpected}
 use Rattle.eid_terminal.proofs.chip.after_selection.Goals as goal
 
 pub returns-then-not-is_done : goal.returns-then-not-is_done
-returns-then-not-is_done c plan = did_at plan _ _ _ (unexpected _ _ _ _ (sym c.if-not-is_done.ensures)) (c.stopped.ensures plan)
+returns-then-not-is_done c plan heard = did_at plan _ _ _ (unexpected _ _ _ _ (sym c.if-not-is_done.ensures)) (c.stopped.ensures plan _ _)
 
 pub returns : goal.returns
-returns c plan =
+returns c plan heard =
     did_at plan _ _ _ (expected _ _ _ _ (sym c.if-not-is_done.ensures) ∙ exchanged _ _ _ _)
-    (c.send.ensures plan (ap (λ body. command 0x00 0x86 0x00 0x00 body 256) (c.deref.ensures.0 ∙ c.authentication_data-body.ensures)) tt)
+    (c.send.ensures plan _ (ap (λ body. command 0x00 0x86 0x00 0x00 body 256) (c.deref.ensures.0 ∙ c.authentication_data-body.ensures)) tt)

@@ -9,16 +9,16 @@ use Rattle.eid_terminal.specs.View.{later_of}
 use Rattle.eid_terminal.proofs.Coming.{came_at, came_now}
 use Rattle.eid_terminal.proofs.going.receive_and_hear.Goals as goal
 
-pub returns-in-Some : goal.returns-in-Some
-returns-in-Some g c = record {
-  reading = Some (plain_reply c.in-Some.reply);
-  reads = c.in-Some.ensures.reads;
-  comes = came_at _ _ (plan_view c.args.plan.now) _ _ _ (ap (λ (channel : Option ChannelState). later_of (plan_view c.args.plan.now) c.args.waiting.awaited channel (plain_reply c.in-Some.reply)) (sym c.in-Some.ensures.counted)) c.hear.ensures;
+pub returns-then-not-receive : goal.returns-then-not-receive
+returns-then-not-receive g c = record {
+  reading = None;
+  reads = c.if-not-receive.ensures.reads;
+  comes = came_now _ (plan_view c.args.plan.now) _ _ _ (ap (λ (step : Step). Stops step 0) (sym c.step_of.ensures)) refl (c.stopped.ensures (plan_view c.args.plan.now) _ _);
 }
 
-pub returns-in-None : goal.returns-in-None
-returns-in-None g c = record {
-  reading = None;
-  reads = c.in-None.ensures.reads;
-  comes = came_now _ (plan_view c.args.plan.now) _ _ _ (ap (λ (step : Step). Stops step 0) (sym c.step_of.ensures)) refl (c.stopped.ensures (plan_view c.args.plan.now));
+pub returns : goal.returns
+returns g c = record {
+  reading = Some (plain_reply c.receive.new.reply);
+  reads = c.if-not-receive.ensures.reads;
+  comes = came_at _ _ (plan_view c.args.plan.now) _ _ _ (ap (λ (channel : Option ChannelState). later_of (plan_view c.args.plan.now) c.args.waiting.awaited channel (plain_reply c.receive.new.reply)) (sym (c.if-not-receive.ensures.counted refl))) c.hear.ensures;
 }

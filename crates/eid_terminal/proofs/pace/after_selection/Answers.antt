@@ -6,9 +6,9 @@ use Rattle.eid_terminal.proofs.PaceSteps.{not_selected, selected}
 use Rattle.eid_terminal.proofs.pace.after_selection.Goals as goal
 
 pub returns-then-not-is_pace_selected : goal.returns-then-not-is_pace_selected
-returns-then-not-is_pace_selected c plan = did_at plan _ _ _ (not_selected _ _ _ _ (sym c.if-not-is_pace_selected.ensures)) (c.stopped.ensures plan)
+returns-then-not-is_pace_selected c plan heard = did_at plan _ _ _ (not_selected _ _ _ _ (sym c.if-not-is_pace_selected.ensures)) (c.stopped.ensures plan _ _)
 
 pub returns : goal.returns
-returns c plan =
+returns c plan heard =
     did_at plan _ _ _ (selected _ _ _ _ (sym c.if-not-is_pace_selected.ensures))
-    (c.send.ensures plan (ap (λ body. command 0x10 0x86 0x00 0x00 body 256) c.no_data.ensures) tt)
+    (c.send.ensures plan _ (ap (λ body. command 0x10 0x86 0x00 0x00 body 256) c.no_data.ensures) tt)

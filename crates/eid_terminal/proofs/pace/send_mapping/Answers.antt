@@ -6,9 +6,9 @@ use Rattle.eid_terminal.proofs.PaceSteps.{exchanged, map_drawn}
 use Rattle.eid_terminal.proofs.pace.send_mapping.Goals as goal
 
 pub returns-in_default : goal.returns-in_default
-returns-in_default g c plan = came_fault _ _ plan _ _ _ _ _ (map_drawn _ _ _) refl c.in_default.ensures (c.failed.ensures plan)
+returns-in_default g c plan heard = came_fault _ _ plan _ _ _ _ _ (map_drawn _ _ _) refl c.in_default.ensures (c.failed.ensures plan _ _)
 
 pub returns : goal.returns
-returns g c plan =
+returns g c plan heard =
     came_by _ _ _ plan _ _ _ _ _ (map_drawn _ _ _) c.in-Ok.ensures refl
-    (came_now _ plan _ _ _ (exchanged _ _ _ _) refl (c.send.ensures plan (ap (λ body. command 0x10 0x86 0x00 0x00 body 256) (c.deref.ensures.0 ∙ c.authentication_data.ensures)) tt))
+    (came_now _ plan _ _ _ (exchanged _ _ _ _) refl (c.send.ensures plan _ (ap (λ body. command 0x10 0x86 0x00 0x00 body 256) (c.deref.ensures.0 ∙ c.authentication_data.ensures)) tt))
