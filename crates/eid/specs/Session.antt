@@ -1,12 +1,12 @@
 -- What the session of a terminal with the chip of an image does. This project's own.
-use Rattle.std.specs.Prelude.{◌≡◌, ℕ, IsTrue, List, Some, Ok, slice_index}
+use Rattle.std.specs.Prelude.{◌≡◌, ℕ, IsTrue, List, [], Some, Ok, slice_index}
 use Rattle.eid_base.specs.Seen.{FolderSeen, SinkSeen, Grew, SameFiles, SameOthers, IsLeftBy}
 use Rattle.eid_cells.specs.Device.{Device}
 use Rattle.eid_copro.specs.Model.{model_answer}
 use Rattle.eid_copro.specs.Told.{AnswersFrom}
-use Rattle.eid_model.specs.Ledger.{kept, pending, MayHold}
+use Rattle.eid_model.specs.Ledger.{kept}
 use Rattle.eid_model.specs.Legal.{IsOnlyJournal}
-use Rattle.eid_model.specs.Moments.{asked}
+use Rattle.eid_model.specs.Moments.{asked, AreSteady}
 use Rattle.eid_run.specs.Honest.{IsHonest}
 use Rattle.eid_run.specs.Meetings.{Coprocessors, Meeting, MetWhole, inverted}
 use Rattle.eid_run.specs.Promised.{FoundPoints, promised_report}
@@ -32,19 +32,22 @@ pub record SessionFinished (image : List ℕ) (start : ℕ) (s : Meeting) (old n
   pub promised : (honest : IsHonest s.plan s.opening) → FoundPoints (journal met.did.conversed.happened) met.did.conversed.asks
       → IsTrue before.tells → Grew before.written now.written (promised_report s.plan s.opening honest.chain)
   pub stored : IsTrue old.tells → new.file image ≡ Some new_cells
-  pub stands : MayHold (pending s.opening (journal met.did.conversed.happened)) (kept s.opening (journal met.did.conversed.happened)) (record_of new_cells)
+  pub stands : record_of new_cells ≡ Some (kept s.opening (journal met.did.conversed.happened))
   pub layout : slice_index new_cells 0 ≡ slice_index s.cells 0
   pub others : SameOthers image old new
 
 -- a session that broke off: the files are as before, and a front of the report was written
 pub record SessionBrokeOff (start : ℕ) (s : Meeting) (old new : FolderSeen) (before now : SinkSeen) : Type 0 where
   pub copros : Coprocessors
+  pub chip_unasked : copros.chip.log ≡ []
+  pub terminal_unasked : copros.terminal.log ≡ []
   pub device : Device
   pub cells : List ℕ
   pub did : DidPartOfSession s.plan s.opening (outside resting s.cells copros.chip before) (outside device cells copros.chip_now now)
       copros.terminal copros.terminal_now
   pub chip_told : AnswersFrom (model_answer start) (asked (journal did.conversed.happened))
   pub terminal_told : AnswersFrom (model_answer (inverted start)) did.conversed.asks
+  pub steady : AreSteady (journal did.conversed.happened)
   pub tells : now.tells ≡ before.tells
   pub files : SameFiles old new
 

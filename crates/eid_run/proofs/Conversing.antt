@@ -4,8 +4,7 @@ use Rattle.std.specs.Prelude.{option_map}
 use Rattle.std.specs.Option.{option_to_list}
 use Rattle.eid_copro.specs.declared.ask.Ask.{Ask}
 use Rattle.eid_terminal.specs.Courses.{Course, Asks, Sends, Passes, Gives, Stops, Faults, Ends, Reached}
-use Rattle.eid_run.specs.Conversations.{Exchange, IsAt, Talks, Told, reply_of}
-use Rattle.eid_run.specs.Talk.{IsDue}
+use Rattle.eid_run.specs.Conversations.{Exchange, IsAt, Talks, Told, reply_of, IsDue}
 
 -- ---- one behind the other
 

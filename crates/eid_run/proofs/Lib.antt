@@ -16,3 +16,4 @@ pub mod Authenticated
 pub mod Proven
 pub mod Requested
 pub mod Promising
+pub mod OneChain

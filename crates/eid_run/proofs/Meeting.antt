@@ -72,6 +72,8 @@ unfoldable pub met_whole : (start : ℕ) (s : Meeting) (copros : Coprocessors) (
 met_whole start s copros device new_cells before now chip_has terminal_has chip_unasked terminal_unasked chip_keeps terminal_keeps did tells =
     let talk = did.conversed in record {
       copros = copros;
+      chip_unasked = chip_unasked;
+      terminal_unasked = terminal_unasked;
       device = device;
       did = did;
       chip_told = answers_from (model_answer start) copros.chip.told copros.chip_now.told copros.chip_now.log (journal talk.happened) chip_has talk.ran.told chip_keeps (talk.ran.logged ∙ ap (λ (l : List Ask). l ++ asked (journal talk.happened)) chip_unasked);

@@ -31,12 +31,12 @@ use Rattle.eid_model.proofs.Ledgers.{nothing_committed}
 use Rattle.eid_sm.specs.Keys.{ChannelState}
 use Rattle.eid_terminal.specs.Authentication.{imports}
 use Rattle.eid_terminal.specs.Courses.{Course, Ends}
-use Rattle.eid_terminal.specs.Plans.{IsFit, PlainPlan}
+use Rattle.eid_terminal.specs.Plans.{HasSizes, IsFit, PlainPlan}
 use Rattle.eid_terminal.specs.Requests.{requests, sector_of}
 use Rattle.eid_terminal.specs.Terminals.{behind_pace, can_terms, certified, course, terms_of, with_can, with_password}
 use Rattle.eid_terminal.specs.declared.action.Step.TheVariants as steps
 use Rattle.eid_run.specs.Conversations.{Exchange, IsEnd, Passed, Talks, Told, reply_of}
-use Rattle.eid_run.specs.Honest.{AreAccepted, HasSizes, IsAccepted, IsCertified, IsCertifiedBy, IsHonest}
+use Rattle.eid_run.specs.Honest.{AreAccepted, IsAccepted, IsCertified, IsCertifiedBy, IsHonest}
 use Rattle.eid_run.specs.Promised.{FoundPoints, HasPoint, PointsDiffer, asking, authentications, first_pace, promised, promised_report, promised_results, terminal_of}
 use Rattle.eid_run.specs.Report.{report}
 use Rattle.eid_run.specs.Meetings.{Meeting, MetWhole, inverted}

@@ -1,5 +1,5 @@
 -- A session with one turn more.
-use Rattle.std.proofs.Common.{◌≡◌, ℕ, ◌+◌, suc, Bool, true, false, IsTrue, List, [], ◌∷◌, ◌++◌, length, map, Option, Some, None, refl, sym, ap, ◌∙◌, subst, inl, inr, ◌≤◌, append_assoc, append-nil, length-append, arith}
+use Rattle.std.proofs.Common.{◌≡◌, ℕ, ◌+◌, suc, Bool, true, false, IsTrue, List, [], ◌∷◌, ◌++◌, length, map, Option, Some, None, refl, sym, ap, ◌∙◌, subst, inl, inr, ◌≤◌, append_assoc, append-nil, length-append, arith, IfSome}
 use Rattle.std.specs.Prelude.{◌==◌, is_some, option_map, slice_index, if◌then◌else◌}
 use Rattle.std.specs.Option.{option_to_list}
 use Rattle.std.specs.List.{count_by}
@@ -30,14 +30,14 @@ use Rattle.eid_terminal.specs.Plans.{IsFit, PlainPlan}
 use Rattle.eid_terminal.specs.Replies.{success}
 use Rattle.eid_terminal.specs.Terminals.{Goes, TerminalView, begun, course, left_at, move_seen}
 use Rattle.eid_terminal.proofs.Within.{at_most}
-use Rattle.eid_run.specs.Conversations.{Exchange, IsEnd, Talks, Told, Passed, Result, command_of, reply_of}
+use Rattle.eid_run.specs.Conversations.{Exchange, IsEnd, Talks, Told, Passed, Result, command_of, reply_of, IsDue}
 use Rattle.eid_run.specs.Lines.{DidLine, IsLine, IsRunSoFar, Keeps}
 use Rattle.eid_run.specs.Report.{report, stop_line, told_line, told_lines}
 use Rattle.eid_run.specs.Runs.{Did, LineEffect, Outside, journal, line_for}
 use Rattle.eid_run.specs.Sessions.{AnswersWell, AreReplies, Conversed, DidPartOfSession, DidSession, command_line, replied, replies_in, replies_to, session_lines}
 use Rattle.eid_run.specs.Tallies.{CountedSession, IsTallyOf, is_answered, is_refused, no_results, tally_more, tally_reply}
 use Rattle.eid_run.specs.declared.tally.Tally.{Tally}
-use Rattle.eid_run.specs.Talk.{BrokeTurn, ChipDid, DidTurn, IsDue, IsLeftAlone, IsTalkSoFar, NoTurn, PartOfTurn, Standing, turn_line, turns, standing, written_so_far}
+use Rattle.eid_run.specs.Talk.{BrokeTurn, ChipDid, DidTurn, IsLeftAlone, IsTalkSoFar, NoTurn, PartOfTurn, Standing, turn_line, turns, standing, written_so_far}
 use Rattle.eid_run.specs.Sinks.{untold}
 use Rattle.eid_run.proofs.Conversing.{here, reached_of, talks_on, talks_turn}
 use Rattle.eid_run.proofs.Running.{ran_happened, ran_lines, ran_more}
@@ -313,17 +313,23 @@ talk_begun plan opening start at first now input fits same dark made keeps termi
 
 -- ---- where it ends
 
+-- the command whose reply is due is what the course sends
+if_pending : (at : Course) (pending : Option Exchange) → ((e : Exchange) → pending ≡ Some e → IsDue at e.command) → IfSome pending (λ e. IsDue at e.command)
+if_pending at None sends = tt
+if_pending at (Some e) sends = sends e refl
+
 -- what was said between them, seen from outside
 pub conversed : (plan : PlainPlan) (opening : FullRecord) (chip chip_now : ChipView) (old new : Outside) (terminal terminal_now : CoproSeen) (asks : List Ask) (exchanges : List Exchange) (told : List Told) (unheard : Option Exchange) (at : Course)
-    → Talks (course plan) asks exchanges told at
+    → Talks (course plan) asks exchanges told at → IfSome unheard (λ e. IsDue at e.command)
     → (run : IsRunSoFar opening (scene chip old.device old.cells) (scene chip_now new.device new.cells) old.copro.log new.copro.log (session_lines (exchanges ++ option_to_list unheard)) untold untold)
     → AreReplies run.happened (exchanges ++ option_to_list unheard) → new.copro.told ≡ old.copro.told → slice_index new.cells 0 ≡ slice_index old.cells 0
     → terminal_now.log ≡ terminal.log ++ asks → terminal_now.told ≡ terminal.told → Conversed plan opening old new terminal terminal_now told at
-conversed plan opening chip chip_now old new terminal terminal_now asks exchanges told unheard at talks run replies chip_told layout logged same = record {
+conversed plan opening chip chip_now old new terminal terminal_now asks exchanges told unheard at talks sends run replies chip_told layout logged same = record {
   asks = asks;
   exchanges = exchanges;
   unheard = unheard;
   talks = talks;
+  sends = sends;
   happened = run.happened;
   ran = ran_lines opening chip chip_now old new (session_lines (exchanges ++ option_to_list unheard)) untold untold run chip_told layout;
   undone = [];
@@ -344,7 +350,7 @@ talk_ended plan opening chip chip_now old new terminal terminal_now first_termin
     let did : DidSession plan opening old new terminal terminal_now = record {
       told = so.told;
       at = terminal_at.course;
-      conversed = conversed plan opening chip chip_now old new terminal terminal_now so.asks so.exchanges so.told so.pending terminal_at.course so.talks so.run so.replies chip_told layout so.logged same;
+      conversed = conversed plan opening chip chip_now old new terminal terminal_now so.asks so.exchanges so.told so.pending terminal_at.course so.talks (if_pending terminal_at.course so.pending so.sends) so.run so.replies chip_told layout so.logged same;
       heard = over.1;
       done = refl;
       ended = over.0;
@@ -391,7 +397,7 @@ talk_broke plan opening chip chip_was chip_now old was new terminal terminal_was
       record {
         told = so.told;
         at = was_at.course;
-        conversed = conversed plan opening chip chip_now old new terminal terminal_now so.asks so.exchanges so.told so.pending was_at.course so.talks both.0 both.1 chip_told layout (none.log ∙ so.logged) same;
+        conversed = conversed plan opening chip chip_now old new terminal terminal_now so.asks so.exchanges so.told so.pending was_at.course so.talks (if_pending was_at.course so.pending so.sends) both.0 both.1 chip_told layout (none.log ∙ so.logged) same;
         written = λ telling. (told_lines plan so.told, (stop_line was_at.course, refl), none.written (tells ∙ telling) ∙ earlier telling ∙ ap (λ (l : List ℕ). old.sink.written ++ l) (append-nil (told_lines plan so.told)));
       }
 
@@ -413,7 +419,7 @@ talk_broke plan opening chip chip_was chip_now old was new terminal terminal_was
         record {
           told = told;
           at = at;
-          conversed = conversed plan opening chip chip_now old new terminal terminal_now asks exchanges told None at talks ran.0 ran.1 chip_told layout all.logged same;
+          conversed = conversed plan opening chip chip_now old new terminal terminal_now asks exchanges told None at talks tt ran.0 ran.1 chip_told layout all.logged same;
           written = λ telling. part_written old.sink.written was.sink.written new.sink.written (told_lines plan so.told) line tail (report plan told at) (earlier telling)
               (subst (λ (l : List ℕ). GrewByPart was.sink.written new.sink.written l) is (p.written (tells ∙ telling))) whole;
         }
@@ -454,6 +460,7 @@ talk_untaken plan opening chip old terminal fits =
         exchanges = [];
         unheard = None;
         talks = here (course plan);
+        sends = tt;
         happened = [];
         ran = ran_lines opening chip chip old old [] untold untold run refl refl;
         undone = session_lines [];

@@ -1,5 +1,5 @@
 -- What comes of a command that a terminal sends to a chip with power, as a legal journal tells it.
-use Rattle.std.proofs.Common.{◌≡◌, ℕ, ◌≤◌, Bool, true, false, ◌&&◌, List, [], ◌∷◌, ◌++◌, length, Option, Some, None, refl, sym, ap, ◌∙◌, subst, arith}
+use Rattle.std.proofs.Common.{◌≡◌, ℕ, ◌≤◌, Bool, true, false, ◌&&◌, List, [], ◌∷◌, length, Option, Some, None, refl, sym, ap, ◌∙◌, subst, arith}
 use Rattle.std.specs.Prelude.{is_none}
 use Rattle.eid_apdu.specs.Answer.{PlainReply, IsReply, spelled}
 use Rattle.eid_apdu.specs.Command.{PlainCommand}

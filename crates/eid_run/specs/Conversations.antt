@@ -59,3 +59,13 @@ IsEnd (Gives request reply later) = ⊥
 IsEnd (Stops step status) = Unit {0}
 IsEnd (Faults step) = Unit {0}
 IsEnd Ends = Unit {0}
+
+-- these bytes were sent, and their reply is due
+abbrev pub IsDue : Course → List ℕ → Type 0
+IsDue (Asks question later) bytes = ⊥
+IsDue (Sends channel command later) bytes = IsWritten channel command bytes
+IsDue (Passes step later) bytes = ⊥
+IsDue (Gives request reply later) bytes = ⊥
+IsDue (Stops step status) bytes = ⊥
+IsDue (Faults step) bytes = ⊥
+IsDue Ends bytes = ⊥

@@ -1,7 +1,7 @@
--- Honest plans: those that a chip with this record lets through, where both sides have model coprocessors. This project's own.
-use Rattle.std.specs.Prelude.{◌≡◌, ℕ, ◌+◌, ◌≤◌, List, [], ◌∷◌, length, Option, Some, None, is_some, IfSome, IsSome, IsTrue, Ok}
+-- Honest plans: those that a chip with this record is sure to let through, where both sides have model coprocessors and these
+-- find points. This project's own.
+use Rattle.std.specs.Prelude.{◌≡◌, ℕ, ◌+◌, ◌≤◌, List, [], ◌∷◌, length, Option, Some, None, is_some, IfSome, IsSome, Ok}
 use Rattle.sha2.specs.Sha256.{sha256}
-use Rattle.eid_bits.specs.Date.{is_long_date}
 use Rattle.eid_copro.specs.Model.{signature_of}
 use Rattle.eid_copro.specs.Numbers.{public_of}
 use Rattle.eid_cvc.specs.CertificateIn.{certificate_in}
@@ -14,13 +14,6 @@ use Rattle.eid_record.specs.Plain.{FullRecord}
 use Rattle.eid_terminal.specs.Authentication.{last_holder}
 use Rattle.eid_terminal.specs.Plans.{PlainPlan}
 use Rattle.eid_trust.specs.Trust.{PlainAccepted, accept_given}
-
--- the sizes that the fields of a plan have by their types
-pub record HasSizes (plan : PlainPlan) : Type 0 where
-  pub template : IfSome plan.template (λ t. length t ≡ 5)
-  pub age : IfSome plan.age (λ date. IsTrue (is_long_date date))
-  pub validity : IfSome plan.validity (λ date. IsTrue (is_long_date date))
-  pub sector : IfSome plan.sector (λ key. length key ≡ 65)
 
 -- The bytes are a certificate that the chip accepts behind these: its issuer's key is known, no rule refuses it, and its
 -- signature is the one that the model coprocessor gives.
@@ -37,8 +30,8 @@ AreAccepted kept chain (bytes ∷ later) kept_then chain_then =
     (accepted : PlainAccepted) × (IsAccepted kept chain bytes accepted
     × AreAccepted (all_committed (one_effect accepted.advance) kept) accepted.chain later kept_then chain_then)
 
--- The holder gives a template; the certificates are accepted one after the other, and leave this chain, which ends in the
--- terminal whose key is that of the plan's secret; and the plan has the chip's key.
+-- The holder gives a template; the certificates are accepted one after the other, and leave this chain. The last one is a
+-- terminal's: the chain ends in the terminal of its name, whose key is that of the plan's secret. The plan has the chip's key.
 pub record IsCertified (plan : PlainPlan) (kept : FullRecord) (chain : PlainChain) : Type 0 where
   pub template : IsSome plan.template
   pub kept_then : FullRecord

@@ -1,6 +1,6 @@
 -- What a session of a terminal and a chip does where both coprocessors are models and the device is at rest before it. This
 -- project's own.
-use Rattle.std.specs.Prelude.{◌≡◌, ℕ, ◌-◌, ◌^◌, List}
+use Rattle.std.specs.Prelude.{◌≡◌, ℕ, ◌-◌, ◌^◌, List, []}
 use Rattle.eid_base.specs.Seen.{SinkSeen}
 use Rattle.eid_cells.specs.Device.{Device}
 use Rattle.eid_copro.specs.Model.{model_answer}
@@ -36,6 +36,8 @@ pub record Coprocessors : Type 0 where
 -- nothing, gave both their answers, and the power was not cut.
 pub record MetWhole (start : ℕ) (s : Meeting) (new_cells : List ℕ) (before now : SinkSeen) : Type 0 where
   pub copros : Coprocessors
+  pub chip_unasked : copros.chip.log ≡ []
+  pub terminal_unasked : copros.terminal.log ≡ []
   pub device : Device
   pub did : DidSession s.plan s.opening (outside resting s.cells copros.chip before) (outside device new_cells copros.chip_now now)
       copros.terminal copros.terminal_now

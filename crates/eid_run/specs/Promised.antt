@@ -41,7 +41,9 @@ abbrev pub terminal_of : PlainPlan → PlainTerminalKnown
 terminal_of plan = record { templates = []; key_x = []; aux = aux_of plan; sectors = [] }
 
 -- What the rules on requests look at in a session: behind PACE alone; or where the certificates left this chain, behind the
--- authentications of terminal and chip, with the application selected. The rest is as where a session begins.
+-- authentications of terminal and chip, with the application selected. No rule on requests looks at the rest, which is as where
+-- a session begins, nor at the identity of the last PACE; rights and sectors are those of the chain, and of the terminal it
+-- looks at the auxiliary data alone.
 abbrev pub asking : PlainPlan → Option PlainChain → State
 asking plan None = record fresh { pace = Some (pace_of plan) }
 asking plan (Some chain) = record fresh {

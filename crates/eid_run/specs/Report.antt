@@ -33,11 +33,11 @@ request_name requests.Ri = codes "ri"
 abbrev pub status_text : ℕ → List ℕ
 status_text status = encode_lower (status_bytes status)
 
--- of restricted identification that succeeded the identifier, which was read from the reply, and else the data
 abbrev pub or_none : Option (List ℕ) → List ℕ
 or_none None = []
 or_none (Some value) = value
 
+-- of restricted identification that succeeded the identifier, which was read from the reply, and else the data
 abbrev pub data_of : Request → PlainReply → List ℕ
 data_of (requests.File number) reply = reply.content
 data_of requests.Age reply = reply.content

@@ -13,7 +13,7 @@ use Rattle.eid_script.specs.Scripts.{ScriptLine, OnLine, ApduLine}
 use Rattle.eid_terminal.specs.Courses.{Course}
 use Rattle.eid_terminal.specs.Plans.{PlainPlan}
 use Rattle.eid_terminal.specs.Terminals.{course}
-use Rattle.eid_run.specs.Conversations.{Exchange, Told, Talks, IsEnd, command_of, reply_of}
+use Rattle.eid_run.specs.Conversations.{Exchange, Told, Talks, IsDue, IsEnd, command_of, reply_of}
 use Rattle.eid_run.specs.Report.{report}
 use Rattle.eid_run.specs.Runs.{LineEffect, Outside, RanLines, journal, lines_of}
 
@@ -59,13 +59,14 @@ pub record AreReplies (happened : List LineEffect) (exchanges : List Exchange) :
 
 -- The terminal came along its course to that place by what it asked its coprocessor and what the chip replied, and told
 -- these things; the chip was given power and ran these commands, but for what is undone, and no others; each reply is what
--- the chip sent. The last reply may be unheard.
+-- the chip sent. The last reply may be unheard: its command is the one that the course sends there.
 pub record Conversed (plan : PlainPlan) (opening : FullRecord) (old new : Outside) (terminal terminal_now : CoproSeen)
     (told : List Told) (at : Course) : Type 0 where
   pub asks : List Ask
   pub exchanges : List Exchange
   pub unheard : Option Exchange
   pub talks : Talks (course plan) asks exchanges told at
+  pub sends : IfSome unheard (λ e. IsDue at e.command)
   pub happened : List LineEffect
   pub ran : RanLines opening happened old new
   pub undone : List ScriptLine

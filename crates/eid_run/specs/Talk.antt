@@ -1,6 +1,6 @@
 -- Inside: cited by private contracts alone.
 -- A session so far, and what one turn of it does.
-use Rattle.std.specs.Prelude.{◌≡◌, ◌⊎◌, ℕ, ◌+◌, true, false, List, [], ◌++◌, map, length, Option, Some, None, IsTrue, is_some, option_map, if◌then◌else◌}
+use Rattle.std.specs.Prelude.{◌≡◌, ◌⊎◌, ℕ, ◌+◌, true, false, List, [], ◌++◌, length, Option, Some, None, IsTrue, is_some, option_map, if◌then◌else◌}
 use Rattle.std.specs.Option.{option_to_list}
 use Rattle.eid_base.specs.Seen.{SinkSeen, Grew, GrewByPart}
 use Rattle.std.specs.List.{slice_get}
@@ -14,15 +14,14 @@ use Rattle.eid_record.specs.Plain.{FullRecord}
 use Rattle.eid_script.specs.Scripts.{ApduLine}
 use Rattle.eid_terminal.specs.declared.action.Action.{Action}
 use Rattle.eid_terminal.specs.declared.plan.Request.{Request}
-use Rattle.eid_terminal.specs.Courses.{Course, Asks, Sends, Passes, Gives, Stops, Faults, Ends}
 use Rattle.eid_terminal.specs.Moves.{Move}
 use Rattle.eid_terminal.specs.Moves as moves
 use Rattle.eid_terminal.specs.Plans.{PlainPlan}
 use Rattle.eid_terminal.specs.Terminals.{Goes, TerminalView, course, move_seen}
-use Rattle.eid_run.specs.Conversations.{Exchange, IsEnd, IsWritten, Told, Talks, reply_of}
+use Rattle.eid_run.specs.Conversations.{Exchange, IsDue, IsEnd, Told, Talks, reply_of}
 use Rattle.eid_run.specs.Lines.{IsLine, IsRunSoFar, Keeps}
 use Rattle.eid_run.specs.Report.{asked_line, fault_line, passed_line, stop_line, stopped_line, told_lines}
-use Rattle.eid_run.specs.Runs.{Did, journal}
+use Rattle.eid_run.specs.Runs.{Did}
 use Rattle.eid_run.specs.Sinks.{untold}
 use Rattle.eid_run.specs.Sessions.{AnswersWell, AreReplies, CanBeSent, replied, session_lines}
 use Rattle.eid_run.specs.Tallies.{IsTallyOf, tally_more}
@@ -138,16 +137,6 @@ pub record KeepsOn (old new : Standing) : Type 0 where
 -- the turns that it took: in each a command was sent, or something told
 abbrev pub turns : List Exchange → Option Exchange → List Told → ℕ
 turns exchanges pending told = length (exchanges ++ option_to_list pending) + length told
-
--- these bytes were sent, and their reply is due
-abbrev pub IsDue : Course → List ℕ → Type 0
-IsDue (Asks question later) bytes = ⊥
-IsDue (Sends channel command later) bytes = IsWritten channel command bytes
-IsDue (Passes step later) bytes = ⊥
-IsDue (Gives request reply later) bytes = ⊥
-IsDue (Stops step status) bytes = ⊥
-IsDue (Faults step) bytes = ⊥
-IsDue Ends bytes = ⊥
 
 -- the answer that came of bytes, where there is one, can be sent
 abbrev pub CameWell : Came → Type 0

@@ -1,6 +1,7 @@
 -- What a terminal is to do, and which plans there are. This project's own.
-use Rattle.std.specs.Prelude.{◌≡◌, ℕ, ◌≤◌, List, [], ◌∷◌, length, map, Option, IfSome, IsSome, option_map, slice_index, Vec}
+use Rattle.std.specs.Prelude.{◌≡◌, ℕ, ◌≤◌, List, [], ◌∷◌, length, map, Option, IfSome, IsSome, IsTrue, option_map, slice_index, Vec}
 use Rattle.std.specs.declared.alloc.Global.{Global}
+use Rattle.eid_bits.specs.Date.{is_long_date}
 use Rattle.eid_bits.specs.Dates.{date_text}
 use Rattle.eid_bits.specs.Template.{template_bytes}
 use Rattle.eid_record.specs.declared.fields.Password.{Password}
@@ -81,6 +82,13 @@ CanBeAsked sector Ri = IsSome sector
 abbrev pub CanAllBeAsked : (sector : Option (List ℕ)) → List Request → Type 0
 CanAllBeAsked sector [] = Unit {0}
 CanAllBeAsked sector (request ∷ later) = CanBeAsked sector request × CanAllBeAsked sector later
+
+-- what the fields of a plan have by their types: sizes, and that dates are dates
+pub record HasSizes (plan : PlainPlan) : Type 0 where
+  pub template : IfSome plan.template (λ t. length t ≡ 5)
+  pub age : IfSome plan.age (λ date. IsTrue (is_long_date date))
+  pub validity : IfSome plan.validity (λ date. IsTrue (is_long_date date))
+  pub sector : IfSome plan.sector (λ key. length key ≡ 65)
 
 -- a plan that a terminal can carry out
 pub record IsFit (p : PlainPlan) : Type 0 where
