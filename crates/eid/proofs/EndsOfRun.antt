@@ -1,13 +1,11 @@
 -- What the run of a script ended in, and what it did: for the commands that read an image and a script,
 -- and then perhaps more.
-use Rattle.std.proofs.Common.{◌≡◌, ◌≢◌, ℕ, ◌+◌, ◌^◌, ◌<◌, ◌≤◌, IsTrue, List, [], ◌∷◌, ◌++◌, length, length-append, Option, Some, Ok, Err, refl, sym, ap, ◌∙◌, subst, arith, inl, inr}
+use Rattle.std.proofs.Common.{◌≡◌, ℕ, ◌+◌, ◌^◌, ◌<◌, ◌≤◌, IsTrue, List, [], ◌∷◌, ◌++◌, length, length-append, Option, Some, Ok, Err, refl, sym, ap, ◌∙◌, subst, arith}
 use Rattle.std.specs.Prelude.{IsSome}
 use Rattle.eid_base.specs.declared.codes.RunError.{RunError}
 use Rattle.eid_base.specs.declared.codes.RunError.TheVariants as run
-use Rattle.eid_base.specs.declared.outside.IoError.{IoError}
-use Rattle.eid_base.specs.declared.outside.IoError.TheVariants as io
 use Rattle.eid_base.specs.Faults.{Rose}
-use Rattle.eid_base.specs.Seen.{FolderSeen, SinkSeen, SameFiles, SameOthers, IsLeftBy}
+use Rattle.eid_base.specs.Seen.{FolderSeen, SinkSeen, SameFiles, SameOthers}
 use Rattle.eid_record.specs.Plain.{FullRecord}
 use Rattle.eid_store.specs.Stands.{stands}
 use Rattle.eid_copro.specs.Model.{model_answer}
@@ -24,17 +22,18 @@ use Rattle.eid_run.specs.Runs.{LineEffect, line_of, lines_of, journal, outside, 
 use Rattle.eid_run.specs.Talk.{HasSource}
 use Rattle.eid_run.proofs.Meeting.{answers_from}
 use Rattle.eid.specs.declared.exit.Exit.{Exit}
-use Rattle.eid.specs.declared.exit.Exit.TheVariants.{Done, Usage, FileFault, NoMemory, BadImage, BadScript, BadConfig, SinkFault, BadAnswers}
+use Rattle.eid.specs.declared.exit.Exit.TheVariants.{Done}
 use Rattle.eid.specs.Commands.{Command, Run, Replay}
-use Rattle.eid.specs.Ends.{exit_broken, exit_not_stored}
+use Rattle.eid.specs.Ends.{IsStored, exit_broken}
 use Rattle.eid.specs.Images.{record_of}
 use Rattle.eid.specs.Inputs.{image_in, script_in, answers_in, unless_refused, expected}
 use Rattle.eid.specs.Loads.{IsRefused}
 use Rattle.eid.specs.Run.{Setup, IsGiven, RanWhole, RunFinished, RunBrokeOff, RunNotStored}
 use Rattle.eid.specs.Ends.{IsEndOfRun}
-use Rattle.eid.specs.Works.{Finished, BrokeOff, NotStored, Meets}
-use Rattle.eid.proofs.Inputs.{image_of_cells, record_of_cells, record_long, some_of}
-use Rattle.eid.proofs.Refusals.{rose_later, same_twice, others_after, refused, refused_later}
+use Rattle.eid.specs.Works.{Meets}
+use Rattle.eid.proofs.Endings.{Concludes, after_breaking, after_storing}
+use Rattle.eid.proofs.Reading.{image_of_cells, record_of_cells, record_long, some_of}
+use Rattle.eid.proofs.Refusals.{same_twice, refused, refused_later}
 
 -- The command reads an image and then a script, and what it ends in where these are good.
 pub record ReadsBoth (c : Command) (image script_name : List ℕ) (files : List ℕ → Option (List ℕ)) (rest : Exit) : Type 0 where
@@ -131,11 +130,11 @@ ran_whole source s copro copro_now device new_cells before now has unasked keeps
 }
 
 -- the run broke off
-pub broke_off : (image : List ℕ) (source : Source) (s : Setup) (folder : FolderSeen) (copro copro_now : CoproSeen) (device : Device) (cells : List ℕ) (before now : SinkSeen) (error : RunError) → HasSource copro.told source → copro.log ≡ [] → KeepsTo copro_now.told copro_now.log → length s.lines < 2 ^ 64
-    → DidSomeLines s.opening s.lines (outside resting s.cells copro before) (outside device cells copro_now now) → now.tells ≡ before.tells → (error ≡ run.SinkFault → Rose before.faults now.faults) → IsEndOfRun image source s folder folder before now (exit_broken error)
-broke_off image source s folder copro copro_now device cells before now error has unasked keeps few did tells rose = at error rose
+pub broke_off : (image : List ℕ) (source : Source) (s : Setup) (old folder : FolderSeen) (copro copro_now : CoproSeen) (device : Device) (cells : List ℕ) (before now : SinkSeen) (error : RunError) → SameFiles old folder → HasSource copro.told source → copro.log ≡ [] → KeepsTo copro_now.told copro_now.log → length s.lines < 2 ^ 64
+    → DidSomeLines s.opening s.lines (outside resting s.cells copro before) (outside device cells copro_now now) → now.tells ≡ before.tells → (error ≡ run.SinkFault → Rose before.faults now.faults) → IsEndOfRun image source s old folder folder before now (exit_broken error)
+broke_off image source s old folder copro copro_now device cells before now error same has unasked keeps few did tells rose = after_breaking (RunFinished image source s old folder before now) (RunBrokeOff source s old folder before now) (RunNotStored image source s old folder before now) (Rose folder.faults folder.faults) (Rose before.faults now.faults) error end rose
   where
-    end : RunBrokeOff source s folder folder before now
+    end : RunBrokeOff source s old folder before now
     end = record {
       copro = copro;
       unasked = unasked;
@@ -146,12 +145,8 @@ broke_off image source s folder copro copro_now device cells before now error ha
       strikes = did.ran.strikes refl refl (omega (arith, few, lines_long did.happened, ap (λ (l : List ScriptLine). length l) did.carried.1, length-append (lines_of did.happened) did.carried.0));
       told = answers_from source copro.told copro_now.told copro_now.log (journal did.happened) has did.ran.told keeps (did.ran.logged ∙ ap (λ (l : List Ask). l ++ asked (journal did.happened)) unasked);
       tells = tells;
-      files = record { tells = refl; files = λ told name. refl };
+      files = same;
     }
-
-    at : (e : RunError) → (e ≡ run.SinkFault → Rose before.faults now.faults) → IsEndOfRun image source s folder folder before now (exit_broken e)
-    at run.SinkFault rose = (end, rose refl)
-    at run.NoMemory rose = inl end
 
 -- all was done
 pub all_done : (image : List ℕ) (source : Source) (s : Setup) (old new : FolderSeen) (before now : SinkSeen) (new_cells : List ℕ) → RanWhole source s new_cells before now → length new_cells ≡ 65536 → (IsTrue old.tells → new.file image ≡ Some new_cells) → SameOthers image old new → RunFinished image source s old new before now
@@ -166,91 +161,32 @@ all_done image source s old new before now new_cells ran long stored others = re
   others = others;
 }
 
--- the image was not stored
-pub not_stored : (image : List ℕ) (source : Source) (s : Setup) (old new : FolderSeen) (before now : SinkSeen) (new_cells : List ℕ) (error : IoError) → RanWhole source s new_cells before now → (IsTrue old.tells → IsLeftBy (old.file image) (new.file image) new_cells) → SameOthers image old new → error ≢ io.Absent → (error ≡ io.Fault → Rose old.faults new.faults) → IsEndOfRun image source s old new before now (exit_not_stored error)
-not_stored image source s old new before now new_cells error ran left others there rose = at error there rose
-  where
-    end : RunNotStored image source s old new before now
-    end = record { new_cells = new_cells; ran = ran; left = left; others = others }
+-- the script ran to its end, and then the image was stored or not
+pub ran_and_stored : (image : List ℕ) (source : Source) (s : Setup) (old middle new : FolderSeen) (before now : SinkSeen) (new_cells : List ℕ) (e : Exit) → SameFiles old middle → RanWhole source s new_cells before now → length new_cells ≡ 65536 → IsStored image new_cells middle new e → IsEndOfRun image source s old middle new before now e
+ran_and_stored image source s old middle new before now new_cells e same ran long stored = after_storing (RunFinished image source s old new before now) (RunBrokeOff source s old new before now) (RunNotStored image source s old new before now) (Rose before.faults now.faults) image new_cells old middle new e same
+    (λ whole others. all_done image source s old new before now new_cells ran long whole others)
+    (λ left. record { new_cells = new_cells; ran = ran; left = left.0; others = left.1 })
+    stored
 
-    at : (e : IoError) → e ≢ io.Absent → (e ≡ io.Fault → Rose old.faults new.faults) → IsEndOfRun image source s old new before now (exit_not_stored e)
-    at io.Absent there rose = absurd (there refl)
-    at io.Fault there rose = (end, rose refl)
-    at io.NoMemory there rose = inr end
+-- what each command does by the end of its run
+abbrev pub ConcludesRun : (c : Command) (image : List ℕ) (source : Source) (s : Setup) (old new : FolderSeen) (before now : SinkSeen) → Type 0
+ConcludesRun c image source s old new before now = Concludes c (RunFinished image source s old new before now) (RunBrokeOff source s old new before now) (RunNotStored image source s old new before now) old new before now
 
--- From the folder after the inputs were read to the folder before: nothing changed in between.
-finished_from : (image : List ℕ) (source : Source) (s : Setup) (old middle new : FolderSeen) (before now : SinkSeen) → SameFiles old middle → RunFinished image source s middle new before now → RunFinished image source s old new before now
-finished_from image source s old middle new before now same f = record {
-  new_cells = f.new_cells;
-  ran = f.ran;
-  steady = f.steady;
-  only = f.only;
-  stored = λ told. f.stored (rw same.tells told);
-  stands = f.stands;
-  layout = f.layout;
-  others = others_after image old middle new same f.others;
-}
-
-broke_off_from : (source : Source) (s : Setup) (old middle new : FolderSeen) (before now : SinkSeen) → SameFiles old middle → RunBrokeOff source s middle new before now → RunBrokeOff source s old new before now
-broke_off_from source s old middle new before now same b = record {
-  copro = b.copro;
-  unasked = b.unasked;
-  copro_now = b.copro_now;
-  device = b.device;
-  cells = b.cells;
-  did = b.did;
-  strikes = b.strikes;
-  told = b.told;
-  tells = b.tells;
-  files = same_twice old middle new same b.files;
-}
-
-not_stored_from : (image : List ℕ) (source : Source) (s : Setup) (old middle new : FolderSeen) (before now : SinkSeen) → SameFiles old middle → RunNotStored image source s middle new before now → RunNotStored image source s old new before now
-not_stored_from image source s old middle new before now same n = record {
-  new_cells = n.new_cells;
-  ran = n.ran;
-  left = λ told. rw (same.files told image) at (n.left (rw same.tells told));
-  others = others_after image old middle new same n.others;
-}
-
--- what a command does by the end of its run
-pub record Ends (c : Command) (image : List ℕ) (source : Source) (s : Setup) (old new : FolderSeen) (before now : SinkSeen) : Type 0 where
-  pub done : IsTrue old.tells → expected c old.file ≡ Done
-  pub finished : RunFinished image source s old new before now → Finished c old new before now
-  pub broke : RunBrokeOff source s old new before now → BrokeOff c old new before now
-  pub unstored : RunNotStored image source s old new before now → NotStored c old new before now
-
-pub run_ends : (image script_name : List ℕ) (start : ℕ) (s : Setup) (old new : FolderSeen) (before now : SinkSeen) → IsGiven image script_name old s → Ends (Run image script_name start) image (model_answer start) s old new before now
+pub run_ends : (image script_name : List ℕ) (start : ℕ) (s : Setup) (old new : FolderSeen) (before now : SinkSeen) → IsGiven image script_name old s → ConcludesRun (Run image script_name start) image (model_answer start) s old new before now
 run_ends image script_name start s old new before now given = record {
-  done = λ told. expected_rest (Run image script_name start) image script_name old.file _ s.opening s.lines (run_reads image script_name start old.file) (given.stood told) (given.read told);
-  finished = λ f. (s, given, f);
-  broke = λ b. (s, given, b);
+  due = λ told. expected_rest (Run image script_name start) image script_name old.file _ s.opening s.lines (run_reads image script_name start old.file) (given.stood told) (given.read told);
+  all = λ f. (s, given, f);
+  part = λ b. (s, given, b);
   unstored = λ n. (s, given, n);
 }
 
-pub replay_ends : (image script_name answers_name : List ℕ) (s : Setup) (answers : List Answer) (old new : FolderSeen) (before now : SinkSeen) → IsGiven image script_name old s → (IsTrue old.tells → answers_in (old.file answers_name) ≡ Ok answers) → Ends (Replay image script_name answers_name) image (script_answer answers) s old new before now
+pub replay_ends : (image script_name answers_name : List ℕ) (s : Setup) (answers : List Answer) (old new : FolderSeen) (before now : SinkSeen) → IsGiven image script_name old s → (IsTrue old.tells → answers_in (old.file answers_name) ≡ Ok answers) → ConcludesRun (Replay image script_name answers_name) image (script_answer answers) s old new before now
 replay_ends image script_name answers_name s answers old new before now given listed = record {
-  done = λ told. expected_rest (Replay image script_name answers_name) image script_name old.file _ s.opening s.lines (replay_reads image script_name answers_name old.file) (given.stood told) (given.read told) ∙ ap (λ r. unless_refused r Done) (listed told);
-  finished = λ f. (s, given, (answers, listed, f));
-  broke = λ b. (s, given, (answers, listed, b));
+  due = λ told. expected_rest (Replay image script_name answers_name) image script_name old.file _ s.opening s.lines (replay_reads image script_name answers_name old.file) (given.stood told) (given.read told) ∙ ap (λ r. unless_refused r Done) (listed told);
+  all = λ f. (s, given, (answers, listed, f));
+  part = λ b. (s, given, (answers, listed, b));
   unstored = λ n. (s, given, (answers, listed, n));
 }
-
--- the command meets what it promises, by how its run ended
-pub run_meets : (c : Command) (image : List ℕ) (source : Source) (s : Setup) (old middle new : FolderSeen) (before now : SinkSeen) (e : Exit) → Ends c image source s old new before now → SameFiles old middle → old.faults ≤ middle.faults → IsEndOfRun image source s middle new before now e → Meets c old new before now e
-run_meets c image source s old middle new before now Done ends same later end = record { reason = ends.done; end = ends.finished (finished_from image source s old middle new before now same end) }
-run_meets c image source s old middle new before now SinkFault ends same later end = record { reason = end.1; end = ends.broke (broke_off_from source s old middle new before now same end.0) }
-run_meets c image source s old middle new before now FileFault ends same later end = record {
-  reason = inl (rose_later old.faults middle.faults new.faults later end.1);
-  end = inr (ends.unstored (not_stored_from image source s old middle new before now same end.0));
-}
-run_meets c image source s old middle new before now NoMemory ends same later (inl b) = record { reason = tt; end = inr (inl (ends.broke (broke_off_from source s old middle new before now same b))) }
-run_meets c image source s old middle new before now NoMemory ends same later (inr n) = record { reason = tt; end = inr (inr (ends.unstored (not_stored_from image source s old middle new before now same n))) }
-run_meets c image source s old middle new before now Usage ends same later end = absurd end
-run_meets c image source s old middle new before now BadImage ends same later end = absurd end
-run_meets c image source s old middle new before now (BadScript line) ends same later end = absurd end
-run_meets c image source s old middle new before now (BadConfig key) ends same later end = absurd end
-run_meets c image source s old middle new before now (BadAnswers line) ends same later end = absurd end
 
 -- what was read of a folder with the same files
 pub script_back : (old middle : FolderSeen) (name : List ℕ) (lines : List ScriptLine) → SameFiles old middle → (IsTrue middle.tells → script_in (middle.file name) ≡ Ok lines) → IsTrue old.tells → script_in (old.file name) ≡ Ok lines

@@ -1,39 +1,38 @@
 -- What the session of a terminal with a chip ended in, and what it did.
-use Rattle.std.proofs.Common.{◌≡◌, ◌≢◌, ℕ, ◌≤◌, IsTrue, List, [], ◌++◌, length, Option, Some, Ok, Err, refl, sym, ap, ◌∙◌, subst, inl, inr}
+use Rattle.std.proofs.Common.{◌≡◌, ℕ, ◌≤◌, IsTrue, List, [], ◌++◌, length, Option, Some, Ok, Err, refl, sym, ap, ◌∙◌, subst}
 use Rattle.eid_base.specs.declared.codes.RunError.{RunError}
 use Rattle.eid_base.specs.declared.codes.RunError.TheVariants as run
-use Rattle.eid_base.specs.declared.outside.IoError.{IoError}
-use Rattle.eid_base.specs.declared.outside.IoError.TheVariants as io
 use Rattle.eid_base.specs.Faults.{Rose}
-use Rattle.eid_base.specs.Seen.{FolderSeen, SinkSeen, SameFiles, SameOthers, IsLeftBy}
+use Rattle.eid_base.specs.Seen.{FolderSeen, SinkSeen, SameFiles, SameOthers}
 use Rattle.eid_cells.specs.Device.{Device}
 use Rattle.eid_copro.specs.declared.ask.Ask.{Ask}
 use Rattle.eid_copro.specs.Model.{model_answer}
 use Rattle.eid_copro.specs.Told.{KeepsTo}
-use Rattle.eid_model.specs.Ledger.{kept, pending, MayHold}
+use Rattle.eid_model.proofs.Journals.{nothing_pending}
+use Rattle.eid_model.specs.Ledger.{kept, MayHold}
 use Rattle.eid_model.specs.Moments.{asked}
-use Rattle.eid_record.specs.Plain.{FullRecord}
+use Rattle.eid_record.specs.Plain.{FullRecord, PlainEffect}
 use Rattle.eid_run.specs.Meetings.{Coprocessors, Meeting, MetWhole, inverted}
 use Rattle.eid_run.specs.Runs.{journal, outside, resting}
 use Rattle.eid_run.specs.Sessions.{DidPartOfSession}
 use Rattle.eid_run.specs.Talk.{HasSource}
-use Rattle.eid_run.specs.Honest.{HasSizes}
-use Rattle.eid_run.proofs.Meeting.{answers_from, asks_from}
+use Rattle.eid_run.proofs.Meeting.{answers_from, asks_from, of_session}
 use Rattle.eid_run.proofs.Promising.{met_promised}
 use Rattle.eid_store.specs.Stands.{stands}
 use Rattle.eid_store.proofs.Laws.{complete}
-use Rattle.eid_terminal.specs.Plans.{IsFit, PlainPlan}
+use Rattle.eid_terminal.specs.Plans.{HasSizes, IsFit, PlainPlan}
 use Rattle.eid.specs.declared.exit.Exit.{Exit}
-use Rattle.eid.specs.declared.exit.Exit.TheVariants.{Done, Usage, FileFault, NoMemory, BadImage, BadScript, BadConfig, SinkFault, BadAnswers}
+use Rattle.eid.specs.declared.exit.Exit.TheVariants.{Done}
 use Rattle.eid.specs.Commands.{Session}
-use Rattle.eid.specs.Ends.{IsEndOfSession, exit_broken, exit_not_stored}
+use Rattle.eid.specs.Ends.{IsEndOfSession, IsStored, exit_broken}
 use Rattle.eid.specs.Inputs.{image_in, plan_in, expected}
 use Rattle.eid.specs.Loads.{IsRefused}
 use Rattle.eid.specs.Session.{IsMeeting, SessionBrokeOff, SessionFinished, SessionNotStored}
 use Rattle.eid.specs.Works.{Meets}
+use Rattle.eid.proofs.Endings.{after_breaking, after_storing, meets_by_end}
 use Rattle.eid.proofs.EndsOfRun.{Opened}
-use Rattle.eid.proofs.Inputs.{record_long}
-use Rattle.eid.proofs.Refusals.{rose_later, same_twice, others_after, refused, refused_later}
+use Rattle.eid.proofs.Reading.{record_long}
+use Rattle.eid.proofs.Refusals.{refused, refused_later}
 
 -- the exits of inputs that are refused
 expected_image : (image terminal : List ℕ) (start : ℕ) (files : List ℕ → Option (List ℕ)) (x : Exit) → image_in (files image) ≡ Err x → expected (Session image terminal start) files ≡ x
@@ -64,25 +63,24 @@ plan_back old middle name plan same read = λ told. rw (same.files told name) at
 -- ---- the ends
 
 -- the session broke off
-pub broke_off : (image : List ℕ) (start : ℕ) (s : Meeting) (folder : FolderSeen) (copros : Coprocessors) (device : Device) (cells : List ℕ) (before now : SinkSeen) (error : RunError) → HasSource copros.chip.told (model_answer start) → HasSource copros.terminal.told (model_answer (inverted start)) → copros.chip.log ≡ [] → copros.terminal.log ≡ [] → KeepsTo copros.chip_now.told copros.chip_now.log → KeepsTo copros.terminal_now.told copros.terminal_now.log
-    → DidPartOfSession s.plan s.opening (outside resting s.cells copros.chip before) (outside device cells copros.chip_now now) copros.terminal copros.terminal_now → now.tells ≡ before.tells → (error ≡ run.SinkFault → Rose before.faults now.faults) → IsEndOfSession image start s folder folder before now (exit_broken error)
-broke_off image start s folder copros device cells before now error chip_has terminal_has chip_unasked terminal_unasked chip_keeps terminal_keeps did tells rose = at error rose
+pub broke_off : (image : List ℕ) (start : ℕ) (s : Meeting) (old folder : FolderSeen) (copros : Coprocessors) (device : Device) (cells : List ℕ) (before now : SinkSeen) (error : RunError) → SameFiles old folder → HasSource copros.chip.told (model_answer start) → HasSource copros.terminal.told (model_answer (inverted start)) → copros.chip.log ≡ [] → copros.terminal.log ≡ [] → KeepsTo copros.chip_now.told copros.chip_now.log → KeepsTo copros.terminal_now.told copros.terminal_now.log
+    → DidPartOfSession s.plan s.opening (outside resting s.cells copros.chip before) (outside device cells copros.chip_now now) copros.terminal copros.terminal_now → now.tells ≡ before.tells → (error ≡ run.SinkFault → Rose before.faults now.faults) → IsEndOfSession image start s old folder folder before now (exit_broken error)
+broke_off image start s old folder copros device cells before now error same chip_has terminal_has chip_unasked terminal_unasked chip_keeps terminal_keeps did tells rose = after_breaking (SessionFinished image start s old folder before now) (SessionBrokeOff start s old folder before now) (SessionNotStored image start s old folder before now) (Rose folder.faults folder.faults) (Rose before.faults now.faults) error end rose
   where
-    end : SessionBrokeOff start s folder folder before now
+    end : SessionBrokeOff start s old folder before now
     end = let talk = did.conversed in record {
       copros = copros;
+      chip_unasked = chip_unasked;
+      terminal_unasked = terminal_unasked;
       device = device;
       cells = cells;
       did = did;
       chip_told = answers_from (model_answer start) copros.chip.told copros.chip_now.told copros.chip_now.log (journal talk.happened) chip_has talk.ran.told chip_keeps (talk.ran.logged ∙ ap (λ (l : List Ask). l ++ asked (journal talk.happened)) chip_unasked);
       terminal_told = asks_from (model_answer (inverted start)) copros.terminal.told copros.terminal_now.told copros.terminal_now.log talk.asks terminal_has talk.same_told terminal_keeps (talk.logged ∙ ap (λ (l : List Ask). l ++ talk.asks) terminal_unasked);
+      steady = talk.ran.unplanned refl refl (of_session talk.happened talk.undone _ talk.carried);
       tells = tells;
-      files = record { tells = refl; files = λ told name. refl };
+      files = same;
     }
-
-    at : (e : RunError) → (e ≡ run.SinkFault → Rose before.faults now.faults) → IsEndOfSession image start s folder folder before now (exit_broken e)
-    at run.SinkFault rose = (end, rose refl)
-    at run.NoMemory rose = inl end
 
 -- all was done
 pub all_done : (image : List ℕ) (start : ℕ) (s : Meeting) (old new : FolderSeen) (before now : SinkSeen) (new_cells : List ℕ) → MetWhole start s new_cells before now → IsFit s.plan → HasSizes s.plan → length s.cells ≡ 65536 → stands s.cells ≡ Some s.opening → length new_cells ≡ 65536 → (IsTrue old.tells → new.file image ≡ Some new_cells) → SameOthers image old new → SessionFinished image start s old new before now
@@ -93,71 +91,26 @@ all_done image start s old new before now new_cells met fit sizes size stood lon
       only = talk.ran.only (model_answer start) met.chip_told met.steady;
       promised = met_promised start s new_cells before now met fit sizes (complete s.cells s.opening size stood).valid;
       stored = stored;
-      stands = subst (λ (o : Option FullRecord). MayHold (pending s.opening (journal talk.happened)) (kept s.opening (journal talk.happened)) o) (sym (record_long new_cells long)) talk.ran.cells;
+      stands = record_long new_cells long ∙ subst (λ (p : Option PlainEffect). MayHold p (kept s.opening (journal talk.happened)) (stands new_cells)) (nothing_pending s.opening (journal talk.happened) met.steady) talk.ran.cells;
       layout = talk.ran.layout;
       others = others;
     }
 
--- the image was not stored
-pub not_stored : (image : List ℕ) (start : ℕ) (s : Meeting) (old new : FolderSeen) (before now : SinkSeen) (new_cells : List ℕ) (error : IoError) → MetWhole start s new_cells before now → (IsTrue old.tells → IsLeftBy (old.file image) (new.file image) new_cells) → SameOthers image old new → error ≢ io.Absent → (error ≡ io.Fault → Rose old.faults new.faults) → IsEndOfSession image start s old new before now (exit_not_stored error)
-not_stored image start s old new before now new_cells error met left others there rose = at error there rose
-  where
-    end : SessionNotStored image start s old new before now
-    end = record { new_cells = new_cells; met = met; left = left; others = others }
-
-    at : (e : IoError) → e ≢ io.Absent → (e ≡ io.Fault → Rose old.faults new.faults) → IsEndOfSession image start s old new before now (exit_not_stored e)
-    at io.Absent there rose = absurd (there refl)
-    at io.Fault there rose = (end, rose refl)
-    at io.NoMemory there rose = inr end
-
--- From the folder after the inputs were read to the folder before: nothing changed in between.
-finished_from : (image : List ℕ) (start : ℕ) (s : Meeting) (old middle new : FolderSeen) (before now : SinkSeen) → SameFiles old middle → SessionFinished image start s middle new before now → SessionFinished image start s old new before now
-finished_from image start s old middle new before now same f = record {
-  new_cells = f.new_cells;
-  met = f.met;
-  only = f.only;
-  promised = f.promised;
-  stored = λ told. f.stored (rw same.tells told);
-  stands = f.stands;
-  layout = f.layout;
-  others = others_after image old middle new same f.others;
-}
-
-broke_off_from : (start : ℕ) (s : Meeting) (old middle new : FolderSeen) (before now : SinkSeen) → SameFiles old middle → SessionBrokeOff start s middle new before now → SessionBrokeOff start s old new before now
-broke_off_from start s old middle new before now same b = record {
-  copros = b.copros;
-  device = b.device;
-  cells = b.cells;
-  did = b.did;
-  chip_told = b.chip_told;
-  terminal_told = b.terminal_told;
-  tells = b.tells;
-  files = same_twice old middle new same b.files;
-}
-
-not_stored_from : (image : List ℕ) (start : ℕ) (s : Meeting) (old middle new : FolderSeen) (before now : SinkSeen) → SameFiles old middle → SessionNotStored image start s middle new before now → SessionNotStored image start s old new before now
-not_stored_from image start s old middle new before now same n = record {
-  new_cells = n.new_cells;
-  met = n.met;
-  left = λ told. rw (same.files told image) at (n.left (rw same.tells told));
-  others = others_after image old middle new same n.others;
-}
+-- the session came to its end, and then the image was stored or not
+pub met_and_stored : (image : List ℕ) (start : ℕ) (s : Meeting) (old middle new : FolderSeen) (before now : SinkSeen) (new_cells : List ℕ) (e : Exit) → SameFiles old middle → MetWhole start s new_cells before now → IsFit s.plan → HasSizes s.plan → length s.cells ≡ 65536 → stands s.cells ≡ Some s.opening → length new_cells ≡ 65536 → IsStored image new_cells middle new e → IsEndOfSession image start s old middle new before now e
+met_and_stored image start s old middle new before now new_cells e same met fit sizes size stood long stored = after_storing (SessionFinished image start s old new before now) (SessionBrokeOff start s old new before now) (SessionNotStored image start s old new before now) (Rose before.faults now.faults) image new_cells old middle new e same
+    (λ whole others. all_done image start s old new before now new_cells met fit sizes size stood long whole others)
+    (λ left. record { new_cells = new_cells; met = met; left = left.0; others = left.1 })
+    stored
 
 -- the command meets what it promises, by how its session ended
-pub session_meets : (image terminal : List ℕ) (start : ℕ) (s : Meeting) (old middle new : FolderSeen) (before now : SinkSeen) (e : Exit) → IsMeeting image terminal old s → SameFiles old middle → old.faults ≤ middle.faults → IsEndOfSession image start s middle new before now e → Meets (Session image terminal start) old new before now e
-session_meets image terminal start s old middle new before now Done given same later end = record {
-  reason = λ told. expected_done image terminal start old.file s.opening s.plan (given.stood told) (given.read told);
-  end = (s, given, finished_from image start s old middle new before now same end);
-}
-session_meets image terminal start s old middle new before now SinkFault given same later end = record { reason = end.1; end = (s, given, broke_off_from start s old middle new before now same end.0) }
-session_meets image terminal start s old middle new before now FileFault given same later end = record {
-  reason = inl (rose_later old.faults middle.faults new.faults later end.1);
-  end = inr (s, given, not_stored_from image start s old middle new before now same end.0);
-}
-session_meets image terminal start s old middle new before now NoMemory given same later (inl b) = record { reason = tt; end = inr (inl (s, given, broke_off_from start s old middle new before now same b)) }
-session_meets image terminal start s old middle new before now NoMemory given same later (inr n) = record { reason = tt; end = inr (inr (s, given, not_stored_from image start s old middle new before now same n)) }
-session_meets image terminal start s old middle new before now Usage given same later end = absurd end
-session_meets image terminal start s old middle new before now BadImage given same later end = absurd end
-session_meets image terminal start s old middle new before now (BadScript line) given same later end = absurd end
-session_meets image terminal start s old middle new before now (BadConfig key) given same later end = absurd end
-session_meets image terminal start s old middle new before now (BadAnswers line) given same later end = absurd end
+pub session_meets : (image terminal : List ℕ) (start : ℕ) (s : Meeting) (old middle new : FolderSeen) (before now : SinkSeen) (e : Exit) → IsMeeting image terminal old s → old.faults ≤ middle.faults → IsEndOfSession image start s old middle new before now e → Meets (Session image terminal start) old new before now e
+session_meets image terminal start s old middle new before now e given later end = meets_by_end (Session image terminal start) (SessionFinished image start s old new before now) (SessionBrokeOff start s old new before now) (SessionNotStored image start s old new before now) old new middle.faults before now e
+    (record {
+      due = λ told. expected_done image terminal start old.file s.opening s.plan (given.stood told) (given.read told);
+      all = λ f. (s, given, f);
+      part = λ b. (s, given, b);
+      unstored = λ n. (s, given, n);
+    })
+    later
+    end

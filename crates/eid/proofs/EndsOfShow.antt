@@ -16,7 +16,7 @@ use Rattle.eid.specs.Inputs.{image_in, expected}
 use Rattle.eid.specs.Loads.{IsRefused}
 use Rattle.eid.specs.Show.{IsTextOf, ShowBrokeOff}
 use Rattle.eid.specs.Works.{Meets}
-use Rattle.eid.proofs.Inputs.{image_read, record_of_cells, some_of}
+use Rattle.eid.proofs.Reading.{image_read, record_of_cells, some_of}
 use Rattle.eid.proofs.Refusals.{refused}
 
 expected_image : (image_name : List ℕ) (files : List ℕ → Option (List ℕ)) (x : Exit) → image_in (files image_name) ≡ Err x → expected (Show image_name) files ≡ x

@@ -1,9 +1,10 @@
+pub mod Endings
 pub mod EndsOfMake
 pub mod EndsOfBig
 pub mod EndsOfKit
 pub mod EndsOfRun
 pub mod EndsOfSession
 pub mod EndsOfShow
-pub mod Inputs
+pub mod Reading
 pub mod Refusals
 pub mod Spoken

@@ -1,8 +1,8 @@
 -- Inside: cited by private contracts alone.
--- How a run that had its inputs ends, and the exits of what failed.
-use Rattle.std.specs.Prelude.{◌⊎◌, ℕ, List}
+-- How a command that had its inputs ends, and the exits of what failed.
+use Rattle.std.specs.Prelude.{◌≡◌, ◌⊎◌, ℕ, IsTrue, List, Some}
 use Rattle.eid_base.specs.Faults.{Rose}
-use Rattle.eid_base.specs.Seen.{FolderSeen, SinkSeen}
+use Rattle.eid_base.specs.Seen.{FolderSeen, SinkSeen, SameOthers, IsLeftBy}
 use Rattle.eid_record.specs.Plain.{FullRecord}
 use Rattle.eid_copro.specs.Told.{Source}
 use Rattle.eid_script.specs.Scripts.{ScriptLine}
@@ -14,46 +14,60 @@ use Rattle.eid.specs.Session.{SessionFinished, SessionBrokeOff, SessionNotStored
 use Rattle.eid_base.specs.declared.codes.RunError.{RunError}
 use Rattle.eid_base.specs.declared.codes.RunError.TheVariants as run
 use Rattle.eid_base.specs.declared.outside.IoError.{IoError}
+use Rattle.eid_perso.specs.declared.config.ConfigError.{ConfigError}
+use Rattle.eid_perso.specs.declared.config.ConfigError.TheVariants as config
 use Rattle.eid_base.specs.declared.outside.IoError.TheVariants as io
 
 abbrev pub setup : FullRecord → List ℕ → List ScriptLine → Setup
 setup opening cells lines = record { opening = opening; cells = cells; lines = lines }
 
--- how a run that had its inputs ended, by the exit
-abbrev pub IsEndOfRun : (image : List ℕ) → Source → Setup → FolderSeen → FolderSeen → SinkSeen → SinkSeen → Exit → Type 0
-IsEndOfRun image source s old new before now Done = RunFinished image source s old new before now
-IsEndOfRun image source s old new before now SinkFault = RunBrokeOff source s old new before now × Rose before.faults now.faults
-IsEndOfRun image source s old new before now FileFault = RunNotStored image source s old new before now × Rose old.faults new.faults
-IsEndOfRun image source s old new before now NoMemory = RunBrokeOff source s old new before now ⊎ RunNotStored image source s old new before now
-IsEndOfRun image source s old new before now Usage = ⊥
-IsEndOfRun image source s old new before now BadImage = ⊥
-IsEndOfRun image source s old new before now (BadScript line) = ⊥
-IsEndOfRun image source s old new before now (BadConfig key) = ⊥
-IsEndOfRun image source s old new before now (BadAnswers line) = ⊥
+abbrev pub IsLeftIn : (name bytes : List ℕ) → FolderSeen → FolderSeen → Type 0
+IsLeftIn name bytes old new = (IsTrue old.tells → IsLeftBy (old.file name) (new.file name) bytes) × SameOthers name old new
 
--- how a session that had its inputs ended, by the exit
-abbrev pub IsEndOfSession : (image : List ℕ) → (start : ℕ) → Meeting → FolderSeen → FolderSeen → SinkSeen → SinkSeen → Exit → Type 0
-IsEndOfSession image start s old new before now Done = SessionFinished image start s old new before now
-IsEndOfSession image start s old new before now SinkFault = SessionBrokeOff start s old new before now × Rose before.faults now.faults
-IsEndOfSession image start s old new before now FileFault = SessionNotStored image start s old new before now × Rose old.faults new.faults
-IsEndOfSession image start s old new before now NoMemory = SessionBrokeOff start s old new before now ⊎ SessionNotStored image start s old new before now
-IsEndOfSession image start s old new before now Usage = ⊥
-IsEndOfSession image start s old new before now BadImage = ⊥
-IsEndOfSession image start s old new before now (BadScript line) = ⊥
-IsEndOfSession image start s old new before now (BadConfig key) = ⊥
-IsEndOfSession image start s old new before now (BadAnswers line) = ⊥
+-- a file was stored, or it is left absent, old, or with a front of the bytes, by the exit
+abbrev pub IsStored : (name bytes : List ℕ) → FolderSeen → FolderSeen → Exit → Type 0
+IsStored name bytes old new Done = (IsTrue old.tells → new.file name ≡ Some bytes) × SameOthers name old new
+IsStored name bytes old new FileFault = IsLeftIn name bytes old new × Rose old.faults new.faults
+IsStored name bytes old new NoMemory = IsLeftIn name bytes old new
+IsStored name bytes old new SinkFault = ⊥
+IsStored name bytes old new Usage = ⊥
+IsStored name bytes old new BadImage = ⊥
+IsStored name bytes old new (BadScript line) = ⊥
+IsStored name bytes old new (BadConfig key) = ⊥
+IsStored name bytes old new (BadAnswers line) = ⊥
 
--- of a run that broke off, of a file that was not stored, and of a text that was not printed
+-- how a command that had its inputs ended, by the exit: it did all, it broke off while it printed, or its file was not stored
+abbrev pub IsEndOf : (finished broke_off not_stored folder_rose sink_rose : Type 0) → Exit → Type 0
+IsEndOf finished broke_off not_stored folder_rose sink_rose Done = finished
+IsEndOf finished broke_off not_stored folder_rose sink_rose SinkFault = broke_off × sink_rose
+IsEndOf finished broke_off not_stored folder_rose sink_rose FileFault = not_stored × folder_rose
+IsEndOf finished broke_off not_stored folder_rose sink_rose NoMemory = broke_off ⊎ not_stored
+IsEndOf finished broke_off not_stored folder_rose sink_rose Usage = ⊥
+IsEndOf finished broke_off not_stored folder_rose sink_rose BadImage = ⊥
+IsEndOf finished broke_off not_stored folder_rose sink_rose (BadScript line) = ⊥
+IsEndOf finished broke_off not_stored folder_rose sink_rose (BadConfig key) = ⊥
+IsEndOf finished broke_off not_stored folder_rose sink_rose (BadAnswers line) = ⊥
+
+-- of a run, and of a session, from a folder on with the files of `old`
+abbrev pub IsEndOfRun : (image : List ℕ) → Source → Setup → (old middle new : FolderSeen) → SinkSeen → SinkSeen → Exit → Type 0
+IsEndOfRun image source s old middle new before now exit = IsEndOf (RunFinished image source s old new before now) (RunBrokeOff source s old new before now)
+    (RunNotStored image source s old new before now) (Rose middle.faults new.faults) (Rose before.faults now.faults) exit
+
+abbrev pub IsEndOfSession : (image : List ℕ) → (start : ℕ) → Meeting → (old middle new : FolderSeen) → SinkSeen → SinkSeen → Exit → Type 0
+IsEndOfSession image start s old middle new before now exit = IsEndOf (SessionFinished image start s old new before now)
+    (SessionBrokeOff start s old new before now) (SessionNotStored image start s old new before now) (Rose middle.faults new.faults)
+    (Rose before.faults now.faults) exit
+
+-- the exits of a run that broke off, of a text that was not printed, and of a configuration that is refused
 abbrev pub exit_broken : RunError → Exit
 exit_broken run.SinkFault = SinkFault
 exit_broken run.NoMemory = NoMemory
-
-abbrev pub exit_not_stored : IoError → Exit
-exit_not_stored io.NoMemory = NoMemory
-exit_not_stored io.Absent = FileFault
-exit_not_stored io.Fault = FileFault
 
 abbrev pub exit_not_printed : IoError → Exit
 exit_not_printed io.NoMemory = NoMemory
 exit_not_printed io.Absent = SinkFault
 exit_not_printed io.Fault = SinkFault
+
+abbrev pub exit_refused : ConfigError → Exit
+exit_refused (config.Bad key) = BadConfig key
+exit_refused config.NoMemory = NoMemory

@@ -13,7 +13,7 @@ use Rattle.eid.specs.Commands.{Command, Run, Replay, Session, Big, Make, Kit, Sh
 use Rattle.eid_perso.specs.Reading.{config_of, kit_of_text, plan_of_text}
 use Rattle.eid.specs.Images.{record_of}
 
--- what is read of an input, or the exit that refuses it: absent, or not of its form
+-- what an input says, or the exit that refuses it
 abbrev pub or_refused : {A : Type 0} → Option A → Exit → Result A Exit
 or_refused None exit = Err exit
 or_refused (Some value) exit = Ok value
@@ -22,29 +22,28 @@ abbrev pub or_bad : {A : Type 0} → (ℕ → Exit) → Result A ℕ → Result 
 or_bad bad (Ok value) = Ok value
 or_bad bad (Err place) = Err (bad place)
 
-unfoldable pub image_in : Option (List ℕ) → Result FullRecord Exit
-image_in None = Err FileFault
-image_in (Some bytes) = or_refused (record_of bytes) BadImage
+-- what a file gives, by what its bytes say
+abbrev pub in_file : {A : Type 0} → (List ℕ → Result A Exit) → Option (List ℕ) → Result A Exit
+in_file said None = Err FileFault
+in_file said (Some bytes) = said bytes
 
-unfoldable pub script_in : Option (List ℕ) → Result (List ScriptLine) Exit
-script_in None = Err FileFault
-script_in (Some text) = or_bad BadScript (script_of text)
+abbrev pub image_in : Option (List ℕ) → Result FullRecord Exit
+image_in file = in_file (λ bytes. or_refused (record_of bytes) BadImage) file
 
-unfoldable pub answers_in : Option (List ℕ) → Result (List Answer) Exit
-answers_in None = Err FileFault
-answers_in (Some text) = or_bad BadAnswers (answers_of text)
+abbrev pub script_in : Option (List ℕ) → Result (List ScriptLine) Exit
+script_in file = in_file (λ text. or_bad BadScript (script_of text)) file
 
-unfoldable pub config_in : Option (List ℕ) → Result PlainConfig Exit
-config_in None = Err FileFault
-config_in (Some text) = or_bad BadConfig (config_of text)
+abbrev pub answers_in : Option (List ℕ) → Result (List Answer) Exit
+answers_in file = in_file (λ text. or_bad BadAnswers (answers_of text)) file
 
-unfoldable pub kit_in : Option (List ℕ) → Result PlainKit Exit
-kit_in None = Err FileFault
-kit_in (Some text) = or_bad BadConfig (kit_of_text text)
+abbrev pub config_in : Option (List ℕ) → Result PlainConfig Exit
+config_in file = in_file (λ text. or_bad BadConfig (config_of text)) file
 
-unfoldable pub plan_in : Option (List ℕ) → Result PlainPlan Exit
-plan_in None = Err FileFault
-plan_in (Some text) = or_bad BadConfig (plan_of_text text)
+abbrev pub kit_in : Option (List ℕ) → Result PlainKit Exit
+kit_in file = in_file (λ text. or_bad BadConfig (kit_of_text text)) file
+
+abbrev pub plan_in : Option (List ℕ) → Result PlainPlan Exit
+plan_in file = in_file (λ text. or_bad BadConfig (plan_of_text text)) file
 
 -- the first refusal, or what comes later
 abbrev pub unless_refused : {A : Type 0} → Result A Exit → Exit → Exit

@@ -1,17 +1,20 @@
 -- Inside: cited by private contracts alone.
 -- What the reading of an input gives.
-use Rattle.std.specs.Prelude.{◌≡◌, ℕ, ◌<◌, ◌≤◌, Bool, IsTrue, List, length, Option, Some, None, Result, Err, ◌⊎◌, IsSome, IsSomeAnd}
+use Rattle.std.specs.Prelude.{◌≡◌, ℕ, Bool, IsTrue, List, Option, None, Result, Err, ◌⊎◌}
 use Rattle.eid.specs.declared.exit.Exit.{Exit}
 use Rattle.eid.specs.declared.exit.Exit.TheVariants.{Done, Usage, FileFault, NoMemory, BadImage, BadScript, BadConfig, SinkFault, BadAnswers}
-use Rattle.eid.specs.declared.load.Read.{Read}
-use Rattle.eid.specs.declared.load.Read.TheVariants as read
 
--- what came of reading a file whole, up to a limit: its bytes, more of them than that, or a failure
-abbrev pub IsRead : Bool → Option (List ℕ) → ℕ → Type 0 → Read → Type 0
-IsRead tells file limit rose (read.Whole bytes) = (length bytes.items ≤ limit) × (IsTrue tells → file ≡ Some bytes.items)
-IsRead tells file limit rose read.TooLong = IsTrue tells → IsSomeAnd file (λ bytes. limit < length bytes)
-IsRead tells file limit rose read.NoMemory = IsTrue tells → IsSome file
-IsRead tells file limit rose read.Failed = rose ⊎ (IsTrue tells × (file ≡ None))
+-- a file could not be read: memory, a fault, or it is absent
+abbrev pub IsUnread : Bool → Option (List ℕ) → Type 0 → Exit → Type 0
+IsUnread tells file rose NoMemory = Unit {0}
+IsUnread tells file rose FileFault = rose ⊎ (IsTrue tells × (file ≡ None))
+IsUnread tells file rose SinkFault = ⊥
+IsUnread tells file rose Done = ⊥
+IsUnread tells file rose Usage = ⊥
+IsUnread tells file rose BadImage = ⊥
+IsUnread tells file rose (BadScript line) = ⊥
+IsUnread tells file rose (BadConfig key) = ⊥
+IsUnread tells file rose (BadAnswers line) = ⊥
 
 -- an input was refused: memory, a fault, or what the file is
 abbrev pub IsRefused : {A : Type 0} → Bool → Result A Exit → Type 0 → Exit → Type 0

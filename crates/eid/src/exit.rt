@@ -1,9 +1,10 @@
 //! How the program ends.
 ghost use Rattle.std.specs.Prelude.{◌≡◌};
 ghost use Rattle.eid.specs.Exits.{exit_status};
-ghost use Rattle.eid.specs.Ends.{exit_broken, exit_not_stored, exit_not_printed};
+ghost use Rattle.eid.specs.Ends.{exit_broken, exit_not_printed, exit_refused};
 
 use eid_base::{IoError, RunError};
+use eid_perso::ConfigError;
 
 /// What the program ends in. The exit statuses are 0 to 8 in this order.
 #[derive(Clone, Copy)]
@@ -65,13 +66,13 @@ impl Exit {
         }
     }
 
-    /// The exit of a write to a folder that failed.
-    pub fn of_write(error: IoError) -> Exit
-        ensures { result ≡ exit_not_stored error }
+    /// The exit of a configuration or plan that is refused.
+    pub fn of_config(error: ConfigError) -> Exit
+        ensures { result ≡ exit_refused error }
     {
         match error {
-            IoError::NoMemory => Exit::NoMemory,
-            IoError::Absent | IoError::Fault => Exit::FileFault,
+            ConfigError::Bad { key } => Exit::BadConfig { key },
+            ConfigError::NoMemory => Exit::NoMemory,
         }
     }
 

@@ -10,7 +10,8 @@ ghost use Rattle.eid.specs.Kit.{kit_signature};
 ghost use Rattle.eid.specs.Works.{Meets};
 
 use crate::exit::Exit;
-use crate::load::load_kit;
+use crate::load::load;
+use crate::storing::store_file;
 use eid_base::Folder;
 use eid_copro::{Coprocessor, ModelCoprocessor};
 use eid_perso::{KitError, KitPlan, kit_of};
@@ -35,15 +36,12 @@ pub fn kit<F: Folder>(alloc: Global, config: &str, file: &str, folder: &mut F) -
     ensures meets { (sink : SinkSeen) → Meets (Kit config.now file.now) (F.seen folder.old) (F.seen folder.new) sink sink result }
     ensures faults { result ≢ Exit.FileFault → (F.seen folder.new).faults ≡ (F.seen folder.old).faults }
 {
-    let plan = match load_kit(alloc, folder, config) {
+    let plan = match load::<KitPlan, F>(alloc, folder, config) {
         Ok(plan) => plan,
         Err(exit) => return exit,
     };
     let Ok(bytes) = certificate_of(alloc, &plan) else {
         return Exit::NoMemory;
     };
-    match folder.write(file, bytes.as_slice()) {
-        Ok(()) => Exit::Done,
-        Err(error) => Exit::of_write(error),
-    }
+    store_file(folder, file, bytes.as_slice())
 }

@@ -3,6 +3,7 @@
 
 mod big;
 mod exit;
+mod inputs;
 mod kit;
 mod load;
 mod make;
@@ -11,6 +12,7 @@ mod replay;
 mod run;
 mod session;
 mod show;
+mod storing;
 #[cfg(test)]
 mod tests;
 mod words;

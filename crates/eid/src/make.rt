@@ -5,9 +5,10 @@ ghost use Rattle.eid.specs.Commands.{Make};
 ghost use Rattle.eid.specs.Works.{Meets};
 
 use crate::exit::Exit;
-use crate::load::load_config;
+use crate::load::load;
+use crate::storing::store_file;
 use eid_base::Folder;
-use eid_perso::image_of;
+use eid_perso::{Config, image_of};
 use std::alloc::Global;
 
 /// Makes the image of a configuration: reads and checks the configuration, and stores the image. Prints
@@ -16,15 +17,12 @@ pub fn make<F: Folder>(alloc: Global, config: &str, image: &str, folder: &mut F)
     ensures meets { (sink : SinkSeen) → Meets (Make config.now image.now) (F.seen folder.old) (F.seen folder.new) sink sink result }
     ensures faults { result ≢ Exit.FileFault → (F.seen folder.new).faults ≡ (F.seen folder.old).faults }
 {
-    let config = match load_config(alloc, folder, config) {
+    let config = match load::<Config, F>(alloc, folder, config) {
         Ok(config) => config,
         Err(exit) => return exit,
     };
     let Ok(cells) = image_of(alloc, &config) else {
         return Exit::NoMemory;
     };
-    match folder.write(image, cells.as_slice()) {
-        Ok(()) => Exit::Done,
-        Err(error) => Exit::of_write(error),
-    }
+    store_file(folder, image, cells.as_slice())
 }

@@ -3,10 +3,11 @@ ghost use Rattle.eid.specs.Commands.{Replay};
 ghost use Rattle.eid.specs.Works.{Meets, NamesFaults};
 
 use crate::exit::Exit;
-use crate::load::{load_answers, load_image, load_script};
+use crate::load::{load, load_image};
 use crate::run::run_and_store;
 use eid_base::{Folder, Sink};
-use eid_copro::ScriptCoprocessor;
+use eid_copro::{Answer, ScriptCoprocessor};
+use eid_script::Line;
 use std::alloc::Global;
 
 /// Runs a script on an image with the coprocessor's answers from a file: reads and checks all three,
@@ -26,11 +27,11 @@ pub fn replay<F: Folder, K: Sink>(
         Ok(cells) => cells,
         Err(exit) => return exit,
     };
-    let lines = match load_script(alloc, folder, script) {
+    let lines = match load::<Vec<Line>, F>(alloc, folder, script) {
         Ok(lines) => lines,
         Err(exit) => return exit,
     };
-    let told = match load_answers(alloc, folder, answers) {
+    let told = match load::<Vec<Answer>, F>(alloc, folder, answers) {
         Ok(told) => told,
         Err(exit) => return exit,
     };

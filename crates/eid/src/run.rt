@@ -1,5 +1,6 @@
 //! The command `run`, and the run of a script that it shares with `replay`.
 ghost use Rattle.std.specs.Prelude.{◌≡◌, ◌^◌, ◌<◌, [], Some, IsSome, length, map};
+ghost use Rattle.eid_base.specs.Seen.{FolderSeen, SameFiles};
 ghost use Rattle.eid_record.specs.Plain.{FullRecord};
 ghost use Rattle.eid_store.specs.Stands.{stands};
 ghost use Rattle.eid_copro.specs.Told.{Source};
@@ -10,7 +11,8 @@ ghost use Rattle.eid.specs.Ends.{IsEndOfRun, setup};
 ghost use Rattle.eid.specs.Works.{Meets, NamesFaults};
 
 use crate::exit::Exit;
-use crate::load::{load_image, load_script};
+use crate::load::{load, load_image};
+use crate::storing::store_file;
 use eid_base::{Folder, Sink};
 use eid_cells::MemoryEeprom;
 use eid_copro::{Coprocessor, ModelCoprocessor};
@@ -33,8 +35,9 @@ pub fn run_and_store<C: Coprocessor, F: Folder, K: Sink>(
     requires stands { IsSome (stands cells.items) }
     requires log { (C.seen copro.old).log ≡ [] }
     requires few { length lines.now < 2 ^ 64 }
-    ensures ends { (source : Source) (opening : FullRecord) → HasSource (C.seen copro.old).told source → stands cells.items ≡ Some opening
-        → IsEndOfRun image.now source (setup opening cells.items (map plain_line lines.now)) (F.seen folder.old) (F.seen folder.new) (K.seen out.old)
+    ensures ends { (old : FolderSeen) (source : Source) (opening : FullRecord) → SameFiles old (F.seen folder.old)
+        → HasSource (C.seen copro.old).told source → stands cells.items ≡ Some opening
+        → IsEndOfRun image.now source (setup opening cells.items (map plain_line lines.now)) old (F.seen folder.old) (F.seen folder.new) (K.seen out.old)
         (K.seen out.new) result }
     ensures faults { NamesFaults (F.seen folder.old) (F.seen folder.new) (K.seen out.old) (K.seen out.new) result }
 {
@@ -42,10 +45,7 @@ pub fn run_and_store<C: Coprocessor, F: Folder, K: Sink>(
     if let Err(error) = run_script(alloc, lines, &mut device, copro, out) {
         return Exit::of_run(error);
     }
-    match folder.write(image, device.cells()) {
-        Ok(()) => Exit::Done,
-        Err(error) => Exit::of_write(error),
-    }
+    store_file(folder, image, device.cells())
 }
 
 /// Runs a script on an image with the model coprocessor: reads and checks both, writes the trace, and
@@ -65,7 +65,7 @@ pub fn run<F: Folder, K: Sink>(
         Ok(cells) => cells,
         Err(exit) => return exit,
     };
-    let lines = match load_script(alloc, folder, script) {
+    let lines = match load::<Vec<Line>, F>(alloc, folder, script) {
         Ok(lines) => lines,
         Err(exit) => return exit,
     };

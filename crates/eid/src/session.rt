@@ -1,5 +1,6 @@
 //! The command `session`.
 ghost use Rattle.std.specs.Prelude.{◌≡◌, ℕ, [], Some, IsSome, length};
+ghost use Rattle.eid_base.specs.Seen.{FolderSeen, SameFiles};
 ghost use Rattle.eid_copro.specs.Model.{model_answer};
 ghost use Rattle.eid_record.specs.Plain.{FullRecord};
 ghost use Rattle.eid_store.specs.Stands.{stands};
@@ -11,12 +12,13 @@ ghost use Rattle.eid.specs.Ends.{IsEndOfSession};
 ghost use Rattle.eid.specs.Works.{Meets, NamesFaults};
 
 use crate::exit::Exit;
-use crate::load::{load_image, load_plan};
+use crate::load::{load, load_image};
+use crate::storing::store_file;
 use eid_base::{Folder, Sink};
 use eid_cells::MemoryEeprom;
 use eid_copro::{Coprocessor, ModelCoprocessor};
-use eid_run::{law_has_sizes, run_session};
-use eid_terminal::Plan;
+use eid_run::run_session;
+use eid_terminal::{Plan, law_has_sizes};
 use std::alloc::Global;
 
 /// Runs a terminal with the chip of cells that stand for a record, over coprocessors that were asked nothing: writes the
@@ -36,9 +38,9 @@ fn meet_and_store<C: Coprocessor, D: Coprocessor, F: Folder, K: Sink>(
     requires fit { IsFit (plan_view plan) }
     requires chip_log { (C.seen chip_copro.old).log ≡ [] }
     requires terminal_log { (D.seen terminal_copro.old).log ≡ [] }
-    ensures ends { (start : ℕ) (opening : FullRecord) → HasSource (C.seen chip_copro.old).told (model_answer start)
-        → HasSource (D.seen terminal_copro.old).told (model_answer (inverted start)) → stands cells.items ≡ Some opening
-        → IsEndOfSession image.now start (meeting opening cells.items (plan_view plan)) (F.seen folder.old) (F.seen folder.new) (K.seen out.old)
+    ensures ends { (old : FolderSeen) (start : ℕ) (opening : FullRecord) → SameFiles old (F.seen folder.old)
+        → HasSource (C.seen chip_copro.old).told (model_answer start) → HasSource (D.seen terminal_copro.old).told (model_answer (inverted start)) → stands cells.items ≡ Some opening
+        → IsEndOfSession image.now start (meeting opening cells.items (plan_view plan)) old (F.seen folder.old) (F.seen folder.new) (K.seen out.old)
         (K.seen out.new) result }
     ensures faults { NamesFaults (F.seen folder.old) (F.seen folder.new) (K.seen out.old) (K.seen out.new) result }
 {
@@ -47,10 +49,7 @@ fn meet_and_store<C: Coprocessor, D: Coprocessor, F: Folder, K: Sink>(
     if let Err(error) = run_session(alloc, plan, &mut device, chip_copro, terminal_copro, out) {
         return Exit::of_run(error);
     }
-    match folder.write(image, device.cells()) {
-        Ok(()) => Exit::Done,
-        Err(error) => Exit::of_write(error),
-    }
+    store_file(folder, image, device.cells())
 }
 
 /// Runs a terminal with the chip of an image, each with a model coprocessor: reads and checks the image and the terminal's
@@ -70,7 +69,7 @@ pub fn session<F: Folder, K: Sink>(
         Ok(cells) => cells,
         Err(exit) => return exit,
     };
-    let plan = match load_plan(alloc, folder, terminal) {
+    let plan = match load::<Plan, F>(alloc, folder, terminal) {
         Ok(plan) => plan,
         Err(exit) => return exit,
     };

@@ -1,19 +1,10 @@
--- What the file holds, by what was read of it.
-use Rattle.eid.specs.Inputs.{image_in}
-use Rattle.eid.proofs.Inputs.{image_stands, image_held, refused_image, image_long, image_absent, failed_read}
+-- What the file holds, by its front.
+use Rattle.std.proofs.Common.{arith}
+use Rattle.eid.proofs.Reading.{image_front, image_held, refused_image}
 use Rattle.eid.proofs.load.load_image.Goals as goal
 
-pub returns-in-Whole-clause-stands : goal.returns-in-Whole-clause-stands
-returns-in-Whole-clause-stands g c = image_stands c.image_of.result c.in-Whole.bytes c.image_of.ensures.image
+pub returns-clause-held : goal.returns-clause-held
+returns-clause-held g c = image_held c.image_of.result 65537 _ _ c.in_ok-bytes.bytes (omega arith) c.in_ok-bytes.ensures.found c.image_of.ensures.image
 
-pub returns-in-Whole-clause-held : goal.returns-in-Whole-clause-held
-returns-in-Whole-clause-held g c = image_held c.image_of.result _ _ c.in-Whole.bytes c.in-Whole.ensures.read.1 c.image_of.ensures.image
-
-pub returns-in-Whole-clause-refused : goal.returns-in-Whole-clause-refused
-returns-in-Whole-clause-refused g c = refused_image c.image_of.result _ _ c.in-Whole.bytes.items _ c.in-Whole.ensures.read.1 c.image_of.ensures.refused
-
-pub returns-in-TooLong-clause-refused : goal.returns-in-TooLong-clause-refused
-returns-in-TooLong-clause-refused g c = λ told. image_long _ (c.in-TooLong.ensures.read told)
-
-pub returns-in-Failed-clause-refused : goal.returns-in-Failed-clause-refused
-returns-in-Failed-clause-refused g c = failed_read image_in _ _ _ image_absent c.in-Failed.ensures.read
+pub returns-clause-refused : goal.returns-clause-refused
+returns-clause-refused g c = refused_image c.image_of.result 65537 _ _ c.in_ok-bytes.bytes.items _ image_front c.in_ok-bytes.ensures.found c.image_of.ensures.refused

@@ -5,7 +5,8 @@ use Rattle.eid_script.specs.Scripts.{plain_line}
 use Rattle.eid.specs.Commands.{Run}
 use Rattle.eid.specs.Ends.{setup}
 use Rattle.eid_run.proofs.Meeting.{model_source}
-use Rattle.eid.proofs.EndsOfRun.{run_reads, image_refused, script_refused, opened, read_after, script_back, run_ends, run_meets}
+use Rattle.eid.proofs.EndsOfRun.{run_reads, image_refused, script_refused, opened, read_after, script_back, run_ends}
+use Rattle.eid.proofs.Endings.{meets_by_end}
 use Rattle.eid.proofs.run.run.Goals as goal
 
 pub returns-in-Err-clause-meets : goal.returns-in-Err-clause-meets
@@ -14,12 +15,12 @@ returns-in-Err-clause-meets g c =
     let script = c.args.script.now in
     image_refused (Run image script c.args.start) image script _ _ _ _ c.in-Err.exit (run_reads image script c.args.start _) c.load_image.ensures.same c.in-Err.ensures.refused
 
-pub returns-in-Err-load_script-clause-meets : goal.returns-in-Err-load_script-clause-meets
-returns-in-Err-load_script-clause-meets g c =
+pub returns-in-Err-load-clause-meets : goal.returns-in-Err-load-clause-meets
+returns-in-Err-load-clause-meets g c =
     let image = c.args.image.now in
     let script = c.args.script.now in
     let o = opened image _ _ c.in-Ok.cells.items c.in-Ok.ensures.stands c.in-Ok.ensures.held c.load_image.ensures.same c.load_image.ensures.later in
-    script_refused (Run image script c.args.start) image script _ _ _ _ _ o.0 c.in-Ok.cells.items c.in-Err-load_script.exit (run_reads image script c.args.start _) o.1 c.load_script.ensures.same c.in-Err-load_script.ensures.refused
+    script_refused (Run image script c.args.start) image script _ _ _ _ _ o.0 c.in-Ok.cells.items c.in-Err-load.exit (run_reads image script c.args.start _) o.1 c.load.ensures.same c.in-Err-load.ensures.refused
 
 pub returns-clause-meets : goal.returns-clause-meets
 returns-clause-meets g c =
@@ -27,8 +28,8 @@ returns-clause-meets g c =
     let script = c.args.script.now in
     let cells = c.in-Ok.cells.items in
     let o = opened image _ _ cells c.in-Ok.ensures.stands c.in-Ok.ensures.held c.load_image.ensures.same c.load_image.ensures.later in
-    let both = read_after image _ _ _ o.0 cells o.1 c.load_script.ensures.same c.load_script.ensures.later in
-    let read = script_back _ _ script _ c.load_image.ensures.same c.in-Ok-load_script.ensures.lines in
-    let s = setup o.0 cells (map plain_line c.in-Ok-load_script.lines.items) in
+    let both = read_after image _ _ _ o.0 cells o.1 c.load.ensures.same c.load.ensures.later in
+    let read = script_back _ _ script _ c.load_image.ensures.same c.in-Ok-load.ensures.found in
+    let s = setup o.0 cells (map plain_line c.in-Ok-load.lines.items) in
     let end = rw c.as_slice.ensures.value at c.run_and_store.ensures.ends in
-    run_meets (Run image script c.args.start) image (model_answer c.args.start) s _ _ _ _ _ c.run_and_store.result (run_ends image script c.args.start s _ _ _ _ (record { is_record = o.1.is_image; stood = o.1.stood; held = o.1.held; read = read })) both.same both.later (end (model_answer c.args.start) o.0 (model_source c.args.start _ c.new-copro.ensures.told) o.1.is_record)
+    meets_by_end (Run image script c.args.start) _ _ _ _ _ _ _ _ c.run_and_store.result (run_ends image script c.args.start s _ _ _ _ (record { is_record = o.1.is_image; stood = o.1.stood; held = o.1.held; read = read })) both.later (end (g.F.Folder.seen c.args.folder.now) (model_answer c.args.start) o.0 both.same (model_source c.args.start _ c.new-copro.ensures.told) o.1.is_record)

@@ -10,11 +10,11 @@ pub returns-in-Err-clause-meets : goal.returns-in-Err-clause-meets
 returns-in-Err-clause-meets g c =
     image_refused c.args.image.now c.args.terminal.now c.args.start _ _ _ c.in-Err.exit c.load_image.ensures.same c.in-Err.ensures.refused
 
-pub returns-in-Err-load_plan-clause-meets : goal.returns-in-Err-load_plan-clause-meets
-returns-in-Err-load_plan-clause-meets g c =
+pub returns-in-Err-load-clause-meets : goal.returns-in-Err-load-clause-meets
+returns-in-Err-load-clause-meets g c =
     let image = c.args.image.now in
     let o = opened image _ _ c.in-Ok.cells.items c.in-Ok.ensures.stands c.in-Ok.ensures.held c.load_image.ensures.same c.load_image.ensures.later in
-    plan_refused image c.args.terminal.now c.args.start _ _ _ _ o.0 c.in-Ok.cells.items c.in-Err-load_plan.exit o.1 c.load_plan.ensures.same c.in-Err-load_plan.ensures.refused
+    plan_refused image c.args.terminal.now c.args.start _ _ _ _ o.0 c.in-Ok.cells.items c.in-Err-load.exit o.1 c.load.ensures.same c.in-Err-load.ensures.refused
 
 pub returns-clause-meets : goal.returns-clause-meets
 returns-clause-meets g c =
@@ -23,8 +23,8 @@ returns-clause-meets g c =
     let start = c.args.start in
     let cells = c.in-Ok.cells.items in
     let o = opened image _ _ cells c.in-Ok.ensures.stands c.in-Ok.ensures.held c.load_image.ensures.same c.load_image.ensures.later in
-    let both = read_after image _ _ _ o.0 cells o.1 c.load_plan.ensures.same c.load_plan.ensures.later in
-    let read = plan_back _ _ terminal _ c.load_image.ensures.same c.in-Ok-load_plan.ensures.said in
-    let s = meeting o.0 cells (plan_view c.in-Ok-load_plan.plan) in
-    let end = c.meet_and_store.ensures.ends start o.0 (model_source start _ c.new-chip_copro.ensures.told) (model_source (inverted start) _ c.new-terminal_copro.ensures.told) o.1.is_record in
-    session_meets image terminal start s _ _ _ _ _ c.meet_and_store.result (record { is_record = o.1.is_image; stood = o.1.stood; held = o.1.held; read = read }) both.same both.later end
+    let both = read_after image _ _ _ o.0 cells o.1 c.load.ensures.same c.load.ensures.later in
+    let read = plan_back _ _ terminal _ c.load_image.ensures.same c.in-Ok-load.ensures.found in
+    let s = meeting o.0 cells (plan_view c.in-Ok-load.plan) in
+    let end = c.meet_and_store.ensures.ends (g.F.Folder.seen c.args.folder.now) start o.0 both.same (model_source start _ c.new-chip_copro.ensures.told) (model_source (inverted start) _ c.new-terminal_copro.ensures.told) o.1.is_record in
+    session_meets image terminal start s _ (g.F.Folder.seen c.load.new.folder) _ _ _ c.meet_and_store.result (record { is_record = o.1.is_image; stood = o.1.stood; held = o.1.held; read = read }) both.later end
