@@ -106,7 +106,11 @@ def read_hash(value: Cursor, tag: int) -> Optional[bytes]:
 
 def read_certificate(data: bytes) -> Certificate:
     """The certificate that bytes are; or the first defect."""
-    whole = Cursor(data)
+    return certificate_at(Cursor(data))
+
+
+def certificate_at(whole: Cursor) -> Certificate:
+    """The certificate that stands here, with nothing behind it."""
     body = whole.take(0x7F4E, "the certificate body")
     body.take(0x5F29, "the profile identifier 00", lambda found: found == b"\0")
     issuer = body.take(0x42, "the certification authority reference, 1 to 16 bytes", is_name).data
@@ -131,15 +135,28 @@ def certificate_bytes(content: bytes) -> bytes:
     return hexadecimal(text) or content
 
 
+def taken_out(data: bytes) -> Cursor:
+    """What stands in an object 7F21, where the bytes are one; else the bytes."""
+    whole = Cursor(data)
+    if not whole.sees(0x7F21):
+        return whole
+    value = whole.take(0x7F21, "a certificate")
+    whole.end("the object 7F21")
+    return value
+
+
 def certificate_lines(content: bytes) -> List[str]:
-    """A certificate in words, and then byte by byte."""
+    """A certificate, alone or in an object 7F21, in words, and then byte by byte."""
     data = certificate_bytes(content)
     try:
-        told = read_certificate(data)
+        found = taken_out(data)
+        size = len(found.data)
+        told = certificate_at(found)
     except Defect as defect:
         raise Refused(f"no certificate, by {defect}") from None
+    around = f", in an object 7F21 of {count(len(data), 'byte')}" if size < len(data) else ""
     lines = [
-        f"card verifiable certificate of {count(len(data), 'byte')}",
+        f"card verifiable certificate of {count(size, 'byte')}{around}",
         f"  issuer: {name_words(told.issuer)}",
         f"  holder: {name_words(told.holder)}",
         f"  role: {tables.ROLES[role_of(told.template)]}",
@@ -150,4 +167,4 @@ def certificate_lines(content: bytes) -> List[str]:
     ]
     for which, value in zip(("first", "second"), told.sectors):
         lines += [f"  hash of the {which} sector key: {value.hex()}"] if value is not None else []
-    return lines + ["", *part_lines(take_apart(data, objects.CERTIFICATE), 0)]
+    return lines + ["", *part_lines(take_apart(data, objects.CERTIFICATE_FILE), 0)]

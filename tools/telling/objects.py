@@ -201,6 +201,7 @@ CERTIFICATE = Place(
     },
     NOT_HERE,
 )
+CERTIFICATE_FILE = Place({**CERTIFICATE.meanings, 0x7F21: Meaning("CV certificate", inside=CERTIFICATE)}, NOT_HERE)
 
 
 def auxiliary_words(value: bytes) -> str:

@@ -31,11 +31,13 @@ COMMANDS: Dict[str, Tuple[str, ...]] = {
     "run": ("IMAGE", "SCRIPT", "START"),
     "replay": ("IMAGE", "SCRIPT", "ANSWERS"),
     "session": ("IMAGE", "TERMINAL", "START"),
+    "big": ("NUMBER",),
     "make": ("CONFIG", "IMAGE"),
     "kit": ("CONFIG", "FILE"),
     "show": ("IMAGE",),
 }
-GREATEST_START = 2**64 - 1
+# The least and the greatest of each word that is a number; it is the last one of its command.
+NUMBERS: Dict[str, Tuple[int, int]] = {"START": (0, 2**64 - 1), "NUMBER": (1, 1000)}
 
 
 @dataclass
@@ -61,14 +63,15 @@ def usage_reason(words: List[str]) -> Optional[str]:
     names = COMMANDS[words[0]]
     if len(words) - 1 != len(names):
         return f"words behind `{words[0]}`: expected {' '.join(names)}, found {count(len(words) - 1, 'word')}"
-    if names[-1] == "START" and not is_start(words[-1]):
-        wanted = f"a whole number from 0 to {GREATEST_START} in decimal, without sign or leading zeros"
-        return f"word {len(words)}, START: expected {wanted}, found `{words[-1]}`"
+    if names[-1] in NUMBERS and not is_number(words[-1], *NUMBERS[names[-1]]):
+        least, greatest = NUMBERS[names[-1]]
+        wanted = f"a whole number from {least} to {greatest} in decimal, without sign or leading zeros"
+        return f"word {len(words)}, {names[-1]}: expected {wanted}, found `{words[-1]}`"
     return None
 
 
-def is_start(word: str) -> bool:
-    return re.fullmatch("0|[1-9][0-9]{0,19}", word) is not None and int(word) <= GREATEST_START
+def is_number(word: str, least: int, greatest: int) -> bool:
+    return re.fullmatch("0|[1-9][0-9]{0,19}", word) is not None and least <= int(word) <= greatest
 
 
 # ---- inputs
@@ -117,6 +120,7 @@ INPUTS: Dict[str, Tuple[Input, ...]] = {
     "run": (IMAGE, SCRIPT),
     "replay": (IMAGE, SCRIPT, ANSWERS),
     "session": (IMAGE, Input(BAD_CONFIG, TEXT_LIMIT, key_reason(plan_keys))),
+    "big": (),
     "make": (Input(BAD_CONFIG, TEXT_LIMIT, key_reason(make_keys)),),
     "kit": (Input(BAD_CONFIG, TEXT_LIMIT, key_reason(kit_keys)),),
     "show": (IMAGE,),
@@ -155,8 +159,10 @@ def expected_reason(words: List[str]) -> Optional[Reason]:
 # ---- endings
 
 
-def written_name(words: List[str]) -> str:
-    """The file that a command writes."""
+def written_name(words: List[str]) -> Optional[str]:
+    """The file that a command writes, if it writes one."""
+    if words[0] in ("big", "show"):
+        return None
     return words[-1] if words[0] in ("make", "kit") else words[1]
 
 
@@ -165,9 +171,10 @@ def reason_of(status: int, words: List[str]) -> str:
     expected = expected_reason(words)
     if expected and expected.status in (status, None):
         return expected.text
-    if status == FILE_FAULT and not usage_reason(words) and words[0] != "show":
+    written = None if usage_reason(words) else written_name(words)
+    if status == FILE_FAULT and written is not None:
         wanted = "a file that can be written, in a folder that can be written to"
-        return f"{written_name(words)}: expected {wanted}; each input could be read"
+        return f"{written}: expected {wanted}; each input could be read"
     if status == NO_MEMORY:
         return "expected more memory than the process could have, by its limits or the machine's"
     if status == OUTPUT_FAULT:

@@ -3,6 +3,7 @@
 import re
 
 from telling import tables
+from telling.why import COMMANDS, INPUTS
 from tests.looking import TOP, same
 
 
@@ -28,6 +29,15 @@ def test_statuses_are_those_of_the_guide():
     cells = [row[0] for row in rows("### From a status to its rules")]
     found = {int(status, 16) for cell in cells for status in re.findall(r"\b[69][0-9A-F]{3}\b", cell)}
     yield "statuses", same(sorted(found), sorted(tables.STATUSES))
+
+
+def test_commands_are_those_of_the_guide():
+    """Their words, and how many files each reads: those in capitals of the second column."""
+    table = rows("## Commands of the program")
+    words = {name: " ".join([name, *behind]) for name, behind in COMMANDS.items()}
+    yield "words", same([row[0].strip("` ") for row in table], [f"eid {text}" for text in words.values()])
+    read = {row[0].split()[1]: len(re.findall(r"\b[A-Z]+\b", row[1])) for row in table}
+    yield "inputs", same(read, {name: len(kinds) for name, kinds in INPUTS.items()})
 
 
 def test_rights_are_those_of_the_definitions():

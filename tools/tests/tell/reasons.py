@@ -205,22 +205,29 @@ def test_keys_of_the_programs_tests():
         yield f"without {name}", same(number if required == "true" else None, absent.number if absent else None)
 
 
-# Words, and a piece of the reason why they are none of a command; None where they are.
+# Words, and the front of the reason why they are none of a command; None where they are.
 WORDS = (
-    ((), "word 1: expected one of run, replay, session, make, kit, show, found no word"),
-    (("fly",), "word 1: expected one of run, replay, session, make, kit, show, found `fly`"),
+    ((), "word 1: expected one of run, replay, session, big, make, kit, show, found no word"),
+    (("fly",), "word 1: expected one of run, replay, session, big, make, kit, show, found `fly`"),
     (("run", "a", "b"), "words behind `run`: expected IMAGE SCRIPT START, found 2 words"),
     (("run", "a", "b", "01"), "word 4, START: expected a whole number from 0 to 18446744073709551615"),
     (("session", "a", "b", "18446744073709551616"), "word 4, START"),
+    (("big",), "words behind `big`: expected NUMBER, found 0 words"),
+    (("big", "0"), "word 2, NUMBER: expected a whole number from 1 to 1000 in decimal, without sign or leading zeros, found `0`"),
+    (("big", "1001"), "word 2, NUMBER"),
+    (("big", "01"), "word 2, NUMBER"),
     (("show", "\udcff"), "word 2: expected a text in UTF-8"),
+    (("big", "1"), None),
+    (("big", "1000"), None),
 )
 
 
 def test_words():
     for words, why in WORDS:
         reason = expected_reason(list(words))
-        yield f"{words}, status", same(1, reason.status)
-        yield f"{words}", begins(why, reason.text)
+        yield f"{words}, status", same(1 if why else None, reason.status if reason else None)
+        if why and reason:
+            yield f"{words}", begins(why, reason.text)
 
 
 @contextlib.contextmanager

@@ -1,12 +1,13 @@
 """Lines whose words were written by hand: names of the standards' tables, and what the guide says of the examples."""
 
+from telling import Refused
 from telling.certificates import certificate_lines
 from telling.images import image_lines
 from telling.lines import tell_moments
 from telling.templates import rights_words, role_of, template_lines
 from telling.text import hex_of
 from telling.trace import read_trace
-from tests.looking import TOP, holds, same
+from tests.looking import TOP, begins, holds, same
 
 # Of examples/full-session/trace.txt: the front of a line (the first one that has it), its words, and those of its parts by their
 # bytes. Names of commands, tags and identifiers are those of ISO/IEC 7816-4 and BSI TR-03110-3.
@@ -264,6 +265,33 @@ def test_the_certificate_of_the_guide():
     yield "front", same(expected, lines[:4])
     yield "dates", same(["  effective: 2026-01-01", "  expiry: 2026-12-31"], lines[5:7])
     yield "key", same("  public key: an uncompressed point, the model coprocessor's of the number 85", lines[7])
+
+
+# What stands around the certificate of the guide, or instead of it, and the place and the front of the defect.
+WRONG_OBJECTS = (
+    ("7f2181e3{}00", "byte 231: expected the end of the object 7F21"),
+    ("7f2181e4{}00", "byte 231: expected the end of the certificate"),
+    ("7f218200e3{}", "byte 0: expected 7F4E"),
+    ("7f2181e77f2181e3{}", "byte 4: expected 7F4E"),
+    ("7f2100", "byte 3: expected 7F4E"),
+)
+
+
+def test_a_certificate_in_an_object_7f21():
+    """Its 227 bytes are E3, so that the object's length takes two bytes more; it is told in the same words."""
+    data = (TOP / "examples/two-certificates/verifier.bin").read_bytes()
+    alone, around = certificate_lines(data), certificate_lines(b"\x7f\x21\x81\xe3" + data)
+    yield "size", same("card verifiable certificate of 227 bytes, in an object 7F21 of 231 bytes", around[0])
+    at = alone.index("")
+    yield "words", same(alone[1:at], around[1:at])
+    yield "object", same("CV certificate  7f2181e3", around[at + 1])
+    yield "parts", same([f"    {line}" for line in alone[at + 1 :]], around[at + 2 :])
+    for form, why in WRONG_OBJECTS:
+        try:
+            told = certificate_lines(form.format(data.hex()).encode())[0]
+        except Refused as error:
+            told = str(error)
+        yield form, begins(f"no certificate, by {why}", told)
 
 
 def test_an_image_in_words():
