@@ -11,6 +11,8 @@ from promise.model import agreed, point
 from promise.plan import Plan
 
 SUCCESS = "9000"
+NO_POINT = "6a80"
+BEHIND_TERMINAL = ("ca", "select")  # the steps behind terminal authentication
 BITS = {"age": 0, "community": 1, "ri": 2}
 CAN_ALLOWED = 4
 GRANTABLE = (*range(29), *range(33, 38))
@@ -148,6 +150,8 @@ def outcomes(at: Situation) -> Iterator[Tuple[str, Optional[Rule]]]:
 def result_line(at: Situation, request: str, failed: Optional[Rule]) -> str:
     if failed is not None:
         return f"{request} {failed.status}"
+    if request == "ri" and agreed(at.record.ri_secret, at.plan.sector) is None:
+        return f"{request} {NO_POINT}"
     return f"{request} {SUCCESS} {content(at, request).hex()}".rstrip()
 
 
@@ -156,7 +160,7 @@ def situation(plan: Plan, record: Record) -> Situation:
 
 
 def comes_to_no_point(plan: Plan, record: Record) -> bool:
-    """Whether a question that is sure to be put comes to no point: such a plan is promised nothing, honest or not.
+    """Whether a question that is sure to be put comes to no point: it stops chip authentication, or is the answer to `ri`.
 
     What the random bytes of PACE come to is not known here; no point is among it once in 2^60 sessions or so.
     """
@@ -169,12 +173,16 @@ def comes_to_no_point(plan: Plan, record: Record) -> bool:
 
 def step_lines(plan: Plan) -> List[str]:
     steps = ["pace"] * (1 if plan.can_first is None else 2)
-    steps += ["ta", "ca", "select"] if plan.certificates else []
+    steps += ["ta", *BEHIND_TERMINAL] if plan.certificates else []
     return [f"{step} {SUCCESS}" for step in steps]
 
 
 def promised_report(plan: Plan, record: Record) -> str:
-    """The report of an honest plan."""
-    at = situation(plan, record)
-    lines = step_lines(plan) + [result_line(at, *outcome) for outcome in outcomes(at)]
+    """The report of an honest plan. Where the chip's secret agrees on no point, chip authentication is the last step."""
+    steps = step_lines(plan)
+    if plan.certificates and agreed(record.ca_secret, point(1)) is None:
+        lines = steps[: -len(BEHIND_TERMINAL)] + [f"stopped ca {NO_POINT}"]
+    else:
+        at = situation(plan, record)
+        lines = steps + [result_line(at, *outcome) for outcome in outcomes(at)]
     return "".join(f"{line}\n" for line in lines)

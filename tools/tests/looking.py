@@ -34,10 +34,24 @@ def tests_of(modules, chosen):
                 yield name[len("test_") :].replace("_", " "), test
 
 
+def chosen_tests(modules):
+    """The tests that the command line names, or all. Ends with 2 where a word names none."""
+    words = sys.argv[1:]
+    unknown = [word for word in words if not any(tests_of(modules, [word]))]
+    if unknown:
+        usage = f"usage: {sys.argv[0]} [NAME..]"
+        if unknown[0] in ("-h", "--help"):
+            print(usage)
+            sys.exit(0)
+        print(f"there is no test with {unknown[0]} in its name\n{usage}", file=sys.stderr)
+        sys.exit(2)
+    return tests_of(modules, words)
+
+
 def look(*modules):
     """Runs the tests that the command line names, or all; prints what differs, and counts. Ends with 1 where something did."""
     passed = failed = 0
-    for name, test in tests_of(modules, sys.argv[1:]):
+    for name, test in chosen_tests(modules):
         try:
             for what, differs in test():
                 passed += differs is None
