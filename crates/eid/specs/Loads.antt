@@ -1,12 +1,12 @@
 -- Inside: cited by private contracts alone.
 -- What the reading of an input gives.
-use Rattle.std.specs.Prelude.{◌≡◌, ℕ, Bool, IsTrue, List, Option, None, Result, Err, ◌⊎◌}
+use Rattle.std.specs.Prelude.{◌≡◌, ℕ, Bool, IsTrue, List, Option, None, Result, Err, ◌⊎◌, IsSome}
 use Rattle.eid.specs.declared.exit.Exit.{Exit}
 use Rattle.eid.specs.declared.exit.Exit.TheVariants.{Done, Usage, FileFault, NoMemory, BadImage, BadScript, BadConfig, SinkFault, BadAnswers}
 
--- a file could not be read: memory, a fault, or it is absent
+-- a file could not be read: memory, where it is there, a fault, or it is absent
 abbrev pub IsUnread : Bool → Option (List ℕ) → Type 0 → Exit → Type 0
-IsUnread tells file rose NoMemory = Unit {0}
+IsUnread tells file rose NoMemory = IsTrue tells → IsSome file
 IsUnread tells file rose FileFault = rose ⊎ (IsTrue tells × (file ≡ None))
 IsUnread tells file rose SinkFault = ⊥
 IsUnread tells file rose Done = ⊥
