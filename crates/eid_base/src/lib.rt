@@ -1,4 +1,4 @@
-//! What every layer names: statuses, rules, refusals, points of the curve, and the outside world
+//! What every layer names: statuses, rules, points of the curve, and the outside world
 //! as a folder of files and a sink of bytes.
 #![tactic(auto)]
 
@@ -8,6 +8,7 @@ mod outside;
 mod points;
 mod real;
 mod replacing;
+pub mod rules;
 mod transfer;
 
 pub use codes::{Full, NoMemory, Rule, RunError, Status};

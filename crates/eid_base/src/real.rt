@@ -61,7 +61,7 @@ impl<R: Files> Folder for RealFolder<'_, R> {
         }
     }
 
-    /// Replaces a regular file in one step.
+    /// Replaces a regular file in one step, and leaves one alone that holds these bytes already.
     fn write(&mut self, name: &str, bytes: &[u8]) -> Result<(), IoError> {
         match write_file(self.rt, self.alloc, name, bytes) {
             Ok(()) => Ok(()),
@@ -96,5 +96,58 @@ impl<R: Print> Sink for RealSink<'_, R> {
             self.faults = next_count(self.faults);
             Err(IoError::Fault)
         }
+    }
+}
+
+#[cfg(test)]
+mod tests {
+    use super::*;
+    use std::alloc::AllocError;
+    use std::fs::Permissions;
+    use std::os::unix::fs::{MetadataExt, PermissionsExt};
+    use std::test::Fail;
+
+    const NAME: &str = "eid_base-written";
+
+    /// Writes to a file that is there: what each shows, how many bytes the file has and its last one, its permissions,
+    /// how many bytes are written and their last one, and whether the file is left alone.
+    #[rattlefmt::skip]
+    const WRITES: &[(&str, usize, u8, u32, usize, u8, bool)] = &[
+        ("the same bytes", 65536, 1, 0o600, 65536, 1, true),
+        ("the same bytes, in a file that is only read", 4097, 1, 0o400, 4097, 1, true),
+        ("another last byte", 65536, 1, 0o600, 65536, 2, false),
+        ("more bytes", 4096, 1, 0o600, 4097, 1, false),
+        ("fewer bytes", 4097, 1, 0o600, 4096, 1, false),
+        ("other bytes, in a file that is only written", 4096, 1, 0o200, 4096, 2, false),
+    ];
+
+    /// Zeros, and behind them another byte.
+    fn bytes_of(alloc: Global, count: usize, last: u8) -> Result<Vec<u8>, AllocError> {
+        let mut bytes = Vec::new(alloc);
+        bytes.resize(count.saturating_sub(1), 0)?;
+        bytes.push(last)?;
+        Ok(bytes)
+    }
+
+    #[test]
+    fn a_file_that_holds_the_bytes_is_left_alone(rt: HostRuntime) -> Result<(), Fail> {
+        for &(shown, before, last, mode, count, new_last, is_left) in WRITES {
+            fs::write(&rt, NAME, bytes_of(rt.alloc(), before, last)?)?;
+            fs::set_permissions(&rt, NAME, Permissions::from_mode(mode))?;
+            let node = fs::metadata(&rt, NAME)?.ino();
+            let written = bytes_of(rt.alloc(), count, new_last)?;
+            let mut folder = RealFolder::new(&rt, rt.alloc());
+            let result = folder.write(NAME, written.as_slice());
+            assert!(rt; result.is_ok() && folder.faults == 0, "{shown}");
+            assert_eq!(rt; fs::metadata(&rt, NAME)?.ino() == node, is_left, "{shown}");
+            fs::set_permissions(&rt, NAME, Permissions::from_mode(0o600))?;
+            assert_eq!(rt;
+                fs::read(&rt, NAME)?.as_slice(),
+                written.as_slice(),
+                "{shown}"
+            );
+            fs::remove_file(&rt, NAME)?;
+        }
+        Ok(())
     }
 }

@@ -1,6 +1,6 @@
 //! Files of the working folder, written. A regular file is replaced in one step: whenever the program is killed, it is
 //! the old one or the new one, whole.
-use crate::transfer::{Broken, write_whole};
+use crate::transfer::{Broken, gives, write_whole};
 use std::alloc::{AllocError, Global};
 use std::fs;
 use std::fs::{OpenFile, OpenOptions, Permissions};
@@ -31,18 +31,37 @@ impl From<Error> for Broken {
     }
 }
 
-/// Makes the file of this name hold these bytes and no others. A regular file, and one that is not there, is made
-/// anew beside it and then renamed; a pipe or a device is written to. A file that may not be written stays.
+/// Makes the file of this name hold these bytes and no others. A regular file that holds them is left alone. Any other,
+/// and one that is not there, is made anew beside it and then renamed; a pipe or a device is written to. A file that may
+/// not be written stays.
 pub(crate) fn write_file<R: Files>(
     rt: &R,
     alloc: Global,
     name: &str,
     bytes: &[u8],
 ) -> Result<(), Broken> {
+    if holds(rt, name, bytes) {
+        return Ok(());
+    }
     match OpenOptions::new().write(true).open(rt, name) {
         Ok(old) => write_over(rt, alloc, name, bytes, old),
         Err(error) if error.kind() == ErrorKind::NotFound => replace(rt, alloc, name, bytes, None),
         Err(error) => Err(Broken::from(error)),
+    }
+}
+
+/// Whether the name leads to a regular file that holds exactly these bytes. Of a file that cannot be read it says no.
+fn holds<R: Files>(rt: &R, name: &str, bytes: &[u8]) -> bool {
+    let is_as_long = match fs::metadata(rt, name) {
+        Ok(metadata) => metadata.is_file() && metadata.len() == bytes.len() as u64,
+        Err(_) => false,
+    };
+    if !is_as_long {
+        return false;
+    }
+    match fs::open(rt, name) {
+        Ok(mut file) => gives(&mut file, bytes),
+        Err(_) => false,
     }
 }
 

@@ -98,3 +98,19 @@ pub(crate) fn read_front<R: Read>(
     }
     Ok(bytes)
 }
+
+/// Whether a reader gives exactly these bytes and ends behind them. One that fails does not.
+pub(crate) fn gives<R: Read>(from: &mut R, bytes: &[u8]) -> bool
+    ensures same { result ≡ true → Consumes (R.remaining from.old) (R.remaining from.new) bytes.now }
+    ensures end { result ≡ true → IsAtEnd (R.remaining from.new) }
+{
+    let mut rest = bytes;
+    let mut chunk = [0u8; CHUNK];
+    while !rest.is_empty() {
+        match read_some(from, &mut chunk) {
+            Some(count) if count > 0 && rest.starts_with(&chunk[..count]) => rest = &rest[count..],
+            _ => return false,
+        }
+    }
+    matches!(read_some(from, &mut chunk), Some(0))
+}
