@@ -2,6 +2,7 @@
 use Rattle.std.proofs.Common.{◌≡◌, ℕ, Bool, true, false, not, ◌&&◌, ◌||◌, ◌==◌, List, [], ◌∷◌, ◌++◌, Option, Some, None, Ok, Err, refl, sym, ap, ◌∙◌, subst}
 use Rattle.std.specs.Prelude.{is_none, is_some, option_map, if◌then◌else◌}
 use Rattle.sha2.specs.Sha256.{sha256}
+use Rattle.eid_base.specs.Rules.{issuer_rule, role_rule, link_rule, expiry_rule}
 use Rattle.eid_apdu.specs.Command.{PlainCommand}
 use Rattle.eid_apdu.specs.Answer.{PlainReply}
 use Rattle.eid_bits.specs.Template.{template_bytes}
@@ -18,7 +19,7 @@ use Rattle.eid_cvc.specs.Chains.{PlainChain, chain_view}
 use Rattle.eid_cvc.specs.declared.chain.ChainState.{ChainState}
 use Rattle.eid_chip.specs.declared.session.Change.TheVariants.{Certificates}
 use Rattle.eid_record.specs.Plain.{FullRecord, PlainRecord, PlainEffect}
-use Rattle.eid_trust.specs.Trust.{Signer, PlainAccepted, accept_given, accepted_by, judged_by, refusal as refusal_of, selected_rule, role_rule, link_rule, expiry_rule, signer_of, key_of, is_issued_by, is_link, is_of_current, is_in_date, chain_after, advance}
+use Rattle.eid_trust.specs.Trust.{Signer, PlainAccepted, accept_given, accepted_by, judged_by, refusal as refusal_of, signer_of, key_of, is_issued_by, is_link, is_of_current, is_in_date, chain_after, advance}
 use Rattle.eid_model.specs.declared.kind.Kind.TheVariants.{SelectPublicKey, VerifyCertificate}
 use Rattle.eid_model.specs.Answers.{outcome_by, due_by, question_of, question_by, status_alone}
 use Rattle.eid_model.specs.Bodies.{key_name_in}
@@ -76,7 +77,7 @@ pub record IsAllowed (kept : PlainRecord) (chain : PlainChain) (selected : List 
 
 abbrev first_rule : (issued role link current date : Bool) → Option ℕ
 first_rule issued role link current date =
-    if not issued then Some selected_rule
+    if not issued then Some issuer_rule
     else if not role then Some role_rule
     else if link && not current then Some link_rule
     else if not link && not date then Some expiry_rule
@@ -133,7 +134,7 @@ refused_by : (issued role link current date : Bool) (kept : FullRecord) (old : S
     → is_of_current kept.fields certificate.body ≡ current → is_in_date kept.fields certificate.body ≡ date → first_rule issued role link current date ≡ Some rule
     → refusal_by kind_rules (known VerifyCertificate kept old c []) ≡ refusal_with rule 0x6300
 refused_by false role link current date kept old c certificate rule reads i r l n d e =
-    let same : selected_rule ≡ rule = cc in
+    let same : issuer_rule ≡ rule = cc in
     rw (reads, i) (ap (λ (n : ℕ). refusal_with n 0x6300) same)
 refused_by true false link current date kept old c certificate rule reads i r l n d e =
     let same : role_rule ≡ rule = cc in
@@ -155,7 +156,7 @@ refused_so kept old c certificate rule reads e =
     kept old c certificate rule reads refl refl refl refl refl (was_refused kept.fields old.certificates (name_chosen old.phase) body rule e)
 
 rule_is_one : (issued role link current date : Bool) (rule : ℕ) → first_rule issued role link current date ≡ Some rule → (rule == 0) ≡ false
-rule_is_one false role link current date rule e = let same : selected_rule ≡ rule = cc in rw (← same) refl
+rule_is_one false role link current date rule e = let same : issuer_rule ≡ rule = cc in rw (← same) refl
 rule_is_one true false link current date rule e = let same : role_rule ≡ rule = cc in rw (← same) refl
 rule_is_one true true true false date rule e = let same : link_rule ≡ rule = cc in rw (← same) refl
 rule_is_one true true true true date rule e = absurd (cc)

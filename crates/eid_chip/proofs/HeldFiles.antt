@@ -5,9 +5,10 @@ use Rattle.std.specs.Option.{option_map, option_and_then}
 use Rattle.std.proofs.Math.Nat.{min_comm}
 use Rattle.std.proofs.lemmas.Bool.Decides.{nat_tests}
 use Rattle.std.proofs.lemmas.List.{length-drop, take_min}
+use Rattle.eid_base.specs.Rules.{end_rule, offset_rule}
 use Rattle.eid_cells.specs.Device.{Device}
 use Rattle.eid_record.specs.Plain.{PlainRecord, FullRecord}
-use Rattle.eid_files.specs.Ranges.{end_rule, offset_rule, read_given, read_status, write_refusal}
+use Rattle.eid_files.specs.Ranges.{read_given, read_status, write_refusal}
 use Rattle.eid_record.specs.Files.{file_range}
 use Rattle.eid_store.specs.declared.store.Store.{Store}
 use Rattle.eid_store.specs.Stands.{stands}

@@ -3,6 +3,7 @@ use Rattle.std.proofs.Common.{◌≡◌, ℕ, Bool, true, false, List, [], ◌�
 use Rattle.std.specs.Prelude.{is_some, ◌==◌, if◌then◌else◌}
 use Rattle.std.specs.Result.{result_ok}
 use Rattle.std.specs.Str.{bytes_eq}
+use Rattle.eid_base.specs.Rules.{active_rule, try_rule, resumed_rule}
 use Rattle.eid_apdu.specs.Command.{PlainCommand}
 use Rattle.eid_apdu.specs.Answer.{PlainReply}
 use Rattle.eid_copro.specs.declared.ask.Answer.{Answer}
@@ -11,7 +12,7 @@ use Rattle.eid_record.specs.Plain.{PlainRecord}
 use Rattle.eid_record.specs.declared.fields.Password.{Password}
 use Rattle.eid_record.specs.declared.fields.Password.TheVariants.{Can, Pin, Puk}
 use Rattle.eid_copro.specs.Asking.{nonce_ask}
-use Rattle.eid_password.specs.Passwords.{digits_of, is_can, is_pin, has_try, is_resumed, active_rule, try_rule, resumed_rule, start_refusal, select_status}
+use Rattle.eid_password.specs.Passwords.{digits_of, is_can, is_pin, has_try, is_resumed, start_refusal, select_status}
 use Rattle.eid_pace.specs.States.{PlainChoice, PlainNonceSent, PlainMapped, PlainAgreed, PlainDone}
 use Rattle.eid_pace.specs.Selections.{PlainSelection, chosen_by, chosen_with, password_named}
 use Rattle.eid_pace.specs.Rules.{token_rule}

@@ -16,7 +16,7 @@ use Rattle.eid_cvc.specs.CertificateIn.{certificate_in}
 use Rattle.eid_trust.specs.Trust.{PlainAccepted, accept_given}
 use Rattle.eid_record.specs.Plain.{FullRecord, PlainEffect}
 use Rattle.eid_copro.specs.Asking.{WereAsked, verify_ask}
-use Rattle.eid_password.specs.Passwords.{active_rule, try_rule, resumed_rule}
+use Rattle.eid_base.specs.Rules.{active_rule, try_rule, resumed_rule}
 use Rattle.eid_pace.specs.Rules.{fault_rule}
 use Rattle.eid_sm.specs.Keys.{ChannelState, Keys, advanced, next_counter}
 use Rattle.eid_sm.specs.Replies.{sealed}

@@ -1,11 +1,10 @@
 //! The refusals, each with its rule and its status.
 ghost use Rattle.std.specs.Prelude.{◌≡◌, ◌==◌, ◌+◌, if◌then◌else◌};
-ghost use Rattle.eid_files.specs.Ranges.{end_rule};
+ghost use Rattle.eid_base.specs.Rules.{end_rule};
 ghost use Rattle.eid_chip.specs.Steps.{refusal, start_refused};
 
-use eid_base::{Rule, Status};
-use eid_files::rules::BEYOND_END;
-use eid_password::rules;
+use eid_base::rules::BEYOND_END;
+use eid_base::{Rule, Status, rules};
 
 /// The rule that a command failed, and the status that says so.
 #[derive(Clone, Copy)]

@@ -1,16 +1,8 @@
 -- Which bytes of a file READ BINARY gives and UPDATE BINARY writes, and the status of a reading (ISO/IEC 7816-4).
--- The numbers of the rules are this project's own.
 use Rattle.std.specs.Prelude.{ℕ, ◌-◌, ◌==◌, ◌||◌, ◌&&◌, not, nat_lt, min, Bool, Option, Some, None, Result, Ok, Err, if◌then◌else◌}
+use Rattle.eid_base.specs.Rules.{offset_rule, end_rule}
 use Rattle.eid_base.specs.declared.codes.Rule.{Rule}
 use Rattle.eid_base.specs.declared.codes.Status.{Status}
-
--- the offset is at most the file's length
-abbrev pub offset_rule : ℕ
-offset_rule = 38
-
--- offset and count together are at most the file's length
-abbrev pub end_rule : ℕ
-end_rule = 39
 
 -- the command was carried out
 abbrev pub done : ℕ

@@ -4,7 +4,6 @@
 
 mod names;
 mod ranges;
-pub mod rules;
 
 pub use names::{data_group_of, file_of_id, file_of_short, law_data_groups};
 pub use ranges::{read_range, write_range};

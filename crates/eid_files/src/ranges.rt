@@ -1,7 +1,7 @@
 ghost use Rattle.std.specs.Prelude.{◌≡◌};
 ghost use Rattle.eid_files.specs.Ranges.{range_view, read_given, refused_by, write_refusal};
 
-use crate::rules::{BEHIND_END, BEYOND_END};
+use eid_base::rules::{BEYOND_END, OFFSET};
 use eid_base::{Rule, Status};
 
 /// The status of a command that was carried out (ISO/IEC 7816-4).
@@ -24,7 +24,7 @@ pub fn read_range(length: u16, offset: u16, ne: u32) -> Result<(u16, Status), Ru
     ensures { range_view result ≡ read_given length offset ne }
 {
     if offset > length {
-        return Err(BEHIND_END);
+        return Err(OFFSET);
     }
     let left = length - offset;
     if u32::from(left) >= ne {
@@ -46,7 +46,7 @@ pub fn write_range(length: u16, offset: u16, count: u16) -> Result<(), Rule>
     ensures { refused_by result ≡ write_refusal length offset count }
 {
     if offset > length {
-        return Err(BEHIND_END);
+        return Err(OFFSET);
     }
     if count > length - offset {
         return Err(BEYOND_END);

@@ -4,6 +4,7 @@
 use Rattle.std.specs.Prelude.{ℕ, ◌+◌, ◌*◌, ◌-◌, Bool, true, false, ◌==◌, ◌&&◌, ◌||◌, not, nat_le, nat_lt, List, [], ◌∷◌, length, Option, Some, None, is_some, unwrap_or, slice_index_or, if◌then◌else◌}
 use Rattle.std.specs.List.{list_all, list_any}
 use Rattle.std.specs.Str.{bytes_eq}
+use Rattle.eid_base.specs.Rules.{command_rule, objects_rule, protection_rule, class_rule, instruction_rule, parameters_rule, unbroken_rule, length_rule, step_rule, form_rule, password_rule, current_rule, named_rule, writable_rule, active_rule, try_rule, resumed_rule, pace_rule, template_rule, unknown_rule, key_rule, chain_rule, name_rule, terminal_rule, unproven_rule, proven_rule, management_rule, unblocking_rule, holder_rule, application_rule, right_rule, sent_rule, reference_rule, comparison_rule, present_rule, offset_rule, end_rule, sector_rule, other_key_rule, issuer_rule, role_rule, link_rule, expiry_rule, fault_rule, same_point_rule, no_point_rule, signature_rule, number_rule, token_rule}
 use Rattle.eid_apdu.specs.Command.{PlainCommand}
 use Rattle.eid_apdu.specs.Chaining.{MAX_REQUEST}
 use Rattle.eid_record.specs.Plain.{FullRecord, PlainRecord, PlainEffect, Spend, Refill, SetPin, SetCan, Active, Unblock, Write}
@@ -16,21 +17,18 @@ use Rattle.eid_cvc.specs.CertificateIn.{certificate_in}
 use Rattle.eid_cvc.specs.Chains.{PlainChain, PlainParty}
 use Rattle.eid_ta.specs.States.{PlainAnnouncement}
 use Rattle.eid_ta.specs.AnnouncementIn.{announcement_in}
-use Rattle.eid_ta.specs.Rules.{chain_rule, name_rule}
 use Rattle.eid_cvc.specs.PublicKeys.{x_half}
-use Rattle.eid_ca.specs.Rules.{other_key_rule}
 use Rattle.eid_bits.specs.declared.identifier.Known.TheVariants.{RiSha256}
 use Rattle.eid_ca.specs.Selections.{chosen_in, names}
 use Rattle.eid_ri.specs.SectorKeysIn.{sector_keys_in}
-use Rattle.eid_trust.specs.Trust.{selected_rule, role_rule, link_rule, expiry_rule, signer_of, is_issued_by, may_sign, is_link, is_of_current, is_in_date, advance}
+use Rattle.eid_trust.specs.Trust.{signer_of, is_issued_by, may_sign, is_link, is_of_current, is_in_date, advance}
 use Rattle.eid_record.specs.Reading.{is_ascii_digit}
 use Rattle.eid_record.specs.declared.fields.Password.{Password}
-use Rattle.eid_password.specs.Passwords.{is_can, is_pin, is_puk, has_try, is_resumed, active_rule, try_rule, resumed_rule}
+use Rattle.eid_password.specs.Passwords.{is_can, is_pin, is_puk, has_try, is_resumed}
 use Rattle.eid_model.specs.declared.kind.Kind.{Kind}
 use Rattle.eid_model.specs.declared.kind.Kind.TheVariants.{SelectApplication, SelectMasterFile, SelectFile, ReadBinary, UpdateBinary, SelectPace, SelectPublicKey, VerifyCertificate, AnnounceTerminal, GetChallenge, ExternalAuthenticate, SelectChipAuthentication, SelectRestrictedIdentification, EncryptedNonce, MapNonce, PerformKeyAgreement, MutualAuthentication, AuthenticateChip, PerformRestrictedIdentification, VerifyAuxiliary, ChangePin, UnblockPin, ChangeCan, ActivatePin, DeactivatePin, NoProtocol, NoStep}
 use Rattle.eid_model.specs.Kinds.{same_kind, kinds, has_instruction, has_parameters, is_by_short, application_id}
 use Rattle.eid_files.specs.Names.{card_access, card_security, file_of_id, file_of_short}
-use Rattle.eid_files.specs.Ranges.{end_rule, offset_rule}
 use Rattle.eid_copro.specs.declared.ask.Answer.{Answer}
 use Rattle.eid_copro.specs.declared.ask.Answer.TheVariants as answers
 use Rattle.eid_copro.specs.Asking.{is_fault}
@@ -572,45 +570,45 @@ for_terminals = ReadBinary ∷ UpdateBinary ∷ SelectRestrictedIdentification �
 abbrev pub transport_rules : List RuleRow
 transport_rules =
     -- the bytes are a command with a body of at most 2,200 bytes
-    record { number = 1; status = fixed 0x6700; kinds = []; holds = λ s. is_command s.incoming } ∷
+    record { number = command_rule; status = fixed 0x6700; kinds = []; holds = λ s. is_command s.incoming } ∷
     -- in a channel: the message has the objects of secure messaging
-    record { number = 2; status = fixed 0x6987; kinds = []; holds = λ s. has_objects s.incoming } ∷
+    record { number = objects_rule; status = fixed 0x6987; kinds = []; holds = λ s. has_objects s.incoming } ∷
     -- in a channel: the message is protected at the next counter
-    record { number = 3; status = fixed 0x6988; kinds = []; holds = λ s. is_protected s.incoming } ∷ []
+    record { number = protection_rule; status = fixed 0x6988; kinds = []; holds = λ s. is_protected s.incoming } ∷ []
 
 -- whether it has a kind
 abbrev pub naming_rules : List RuleRow
 naming_rules =
     -- the class is 00, 10 or 80
-    record { number = 4; status = fixed 0x6E00; kinds = []; holds = λ s. is_class s.command.cla } ∷
+    record { number = class_rule; status = fixed 0x6E00; kinds = []; holds = λ s. is_class s.command.cla } ∷
     -- some kind has this class and instruction
-    record { number = 5; status = fixed 0x6D00; kinds = []; holds = λ s. list_any (has_instruction s.command) kinds } ∷
+    record { number = instruction_rule; status = fixed 0x6D00; kinds = []; holds = λ s. list_any (has_instruction s.command) kinds } ∷
     -- some kind has this class, instruction and parameters
-    record { number = 6; status = fixed 0x6A86; kinds = []; holds = λ s. list_any (has_parameters s.command) kinds } ∷ []
+    record { number = parameters_rule; status = fixed 0x6A86; kinds = []; holds = λ s. list_any (has_parameters s.command) kinds } ∷ []
 
 -- whether the request can be answered by its kind, whatever the kind is
 abbrev pub request_rules : List RuleRow
 request_rules =
     -- no chain of fragments is open, or the command has its instruction and parameters
-    record { number = 7; status = fixed 0x6883; kinds = []; holds = λ s. s.unbroken } ∷
+    record { number = unbroken_rule; status = fixed 0x6883; kinds = []; holds = λ s. s.unbroken } ∷
     -- the request's body has at most 2,048 bytes so far
-    record { number = 8; status = fixed 0x6700; kinds = []; holds = λ s. nat_le (length s.command.body) MAX_REQUEST } ∷ []
+    record { number = length_rule; status = fixed 0x6700; kinds = []; holds = λ s. nat_le (length s.command.body) MAX_REQUEST } ∷ []
 
 -- whether a command of its kind is carried out
 abbrev pub kind_rules : List RuleRow
 kind_rules =
     -- the step is the run's next one
-    record { number = 9; status = fixed 0x6985; kinds = NoStep ∷ []; holds = λ s. false } ∷
+    record { number = step_rule; status = fixed 0x6985; kinds = NoStep ∷ []; holds = λ s. false } ∷
     -- the body has the form of the kind
-    record { number = 10; status = fixed 0x6A80; kinds = []; holds = λ s. is_formed s.kind s.command.body } ∷
+    record { number = form_rule; status = fixed 0x6A80; kinds = []; holds = λ s. is_formed s.kind s.command.body } ∷
     -- the reference names a password: 2 the CAN, 3 the PIN, 4 the PUK
-    record { number = 11; status = fixed 0x6A88; kinds = SelectPace ∷ []; holds = λ s. names_password (selection_in s.command.body) } ∷
+    record { number = password_rule; status = fixed 0x6A88; kinds = SelectPace ∷ []; holds = λ s. names_password (selection_in s.command.body) } ∷
     -- by offset alone: there is a current file
-    record { number = 12; status = fixed 0x6986; kinds = ReadBinary ∷ UpdateBinary ∷ []; holds = λ s. is_by_short s.command || is_some s.state.current } ∷
+    record { number = current_rule; status = fixed 0x6986; kinds = ReadBinary ∷ UpdateBinary ∷ []; holds = λ s. is_by_short s.command || is_some s.state.current } ∷
     -- the identifier is the application's, or names a file
-    record { number = 13; status = fixed 0x6A82; kinds = SelectApplication ∷ SelectFile ∷ ReadBinary ∷ UpdateBinary ∷ []; holds = λ s. is_named s.kind s } ∷
+    record { number = named_rule; status = fixed 0x6A82; kinds = SelectApplication ∷ SelectFile ∷ ReadBinary ∷ UpdateBinary ∷ []; holds = λ s. is_named s.kind s } ∷
     -- the file is a data group that may be written: 17 to 21
-    record { number = 14; status = fixed 0x6982; kinds = UpdateBinary ∷ []; holds = λ s. with_file (λ f. is_between 17 21 (group_of f)) (file_meant s) } ∷
+    record { number = writable_rule; status = fixed 0x6982; kinds = UpdateBinary ∷ []; holds = λ s. with_file (λ f. is_between 17 21 (group_of f)) (file_meant s) } ∷
     -- PACE begins with the PIN: it is active
     record { number = active_rule; status = fixed 0x6984; kinds = EncryptedNonce ∷ []; holds = λ s. not (starts_pin s.state.phase) || s.kept.fields.active } ∷
     -- a try is left
@@ -624,19 +622,19 @@ kind_rules =
     } ∷
     -- the session has a successful PACE, but for a READ of EF.CardAccess
     record {
-      number = 20;
+      number = pace_rule;
       status = fixed 0x6982;
       kinds = ReadBinary ∷ UpdateBinary ∷ SelectPublicKey ∷ AnnounceTerminal ∷ SelectChipAuthentication ∷ SelectRestrictedIdentification ∷
           VerifyAuxiliary ∷ ChangePin ∷ UnblockPin ∷ ChangeCan ∷ ActivatePin ∷ DeactivatePin ∷ [];
       holds = λ s. reads_card_access s.kind (file_meant s) || is_some s.state.pace;
     } ∷
     -- in that PACE the holder gave a template
-    record { number = 21; status = fixed 0x6985; kinds = SelectPublicKey ∷ AnnounceTerminal ∷ []; holds = λ s. had_template s.state.pace } ∷
+    record { number = template_rule; status = fixed 0x6985; kinds = SelectPublicKey ∷ AnnounceTerminal ∷ []; holds = λ s. had_template s.state.pace } ∷
     -- no terminal authentication succeeded after it
-    record { number = 22; status = fixed 0x6985; kinds = SelectPublicKey ∷ AnnounceTerminal ∷ []; holds = λ s. not (is_some s.state.terminal) } ∷
+    record { number = unknown_rule; status = fixed 0x6985; kinds = SelectPublicKey ∷ AnnounceTerminal ∷ []; holds = λ s. not (is_some s.state.terminal) } ∷
     -- the name is that of a trust point, or of the document verifier accepted last
     record {
-      number = 23;
+      number = key_rule;
       status = fixed 0x6A88;
       kinds = SelectPublicKey ∷ [];
       holds = λ s. is_key_known s.kept.fields s.state.certificates (key_name_in s.command.body);
@@ -652,68 +650,68 @@ kind_rules =
     } ∷
     -- terminal authentication succeeded
     record {
-      number = 26;
+      number = terminal_rule;
       status = fixed 0x6982;
       kinds = SelectChipAuthentication ∷ for_terminals;
       holds = λ s. not (wants_terminal s.kind (file_meant s)) || is_some s.state.terminal;
     } ∷
     -- no chip authentication succeeded after it
-    record { number = 27; status = fixed 0x6985; kinds = SelectChipAuthentication ∷ []; holds = λ s. not s.state.chip_proven } ∷
+    record { number = unproven_rule; status = fixed 0x6985; kinds = SelectChipAuthentication ∷ []; holds = λ s. not s.state.chip_proven } ∷
     -- chip authentication succeeded after it
     record {
-      number = 28;
+      number = proven_rule;
       status = fixed 0x6982;
       kinds = for_terminals;
       holds = λ s. not (is_for_terminal s.kind (file_meant s)) || s.state.chip_proven;
     } ∷
     -- that PACE was with the PIN, to change it, or with the PUK, to unblock the PIN; or a terminal may manage it
-    record { number = 29; status = fixed 0x6982; kinds = ChangePin ∷ UnblockPin ∷ []; holds = λ s. may_manage s.kind s.state.pace || manages_pin s.state } ∷
+    record { number = management_rule; status = fixed 0x6982; kinds = ChangePin ∷ UnblockPin ∷ []; holds = λ s. may_manage s.kind s.state.pace || manages_pin s.state } ∷
     -- after PACE with the PUK: an unblocking is left
     record {
-      number = 30;
+      number = unblocking_rule;
       status = fixed 0x6983;
       kinds = UnblockPin ∷ [];
       holds = λ s. not (was_with is_puk s.state.pace) || nat_le 1 s.kept.fields.unblocks;
     } ∷
     -- that PACE was with the PIN, or with the CAN, where that is allowed
     record {
-      number = 31;
+      number = holder_rule;
       status = fixed 0x6982;
       kinds = for_terminals;
       holds = λ s. not (is_for_terminal s.kind (file_meant s)) || is_by_holder s.state;
     } ∷
     -- the application is selected
     record {
-      number = 32;
+      number = application_rule;
       status = fixed 0x6985;
       kinds = ReadBinary ∷ UpdateBinary ∷ SelectRestrictedIdentification ∷ VerifyAuxiliary ∷ [];
       holds = λ s. not (is_for_terminal s.kind (file_meant s)) || s.state.selected;
     } ∷
     -- its right is granted
     record {
-      number = 33;
+      number = right_rule;
       status = fixed 0x6982;
       kinds = for_terminals;
       holds = λ s. not (is_for_terminal s.kind (file_meant s)) || has_its_right s.kind (file_meant s) (comparison_in s.command.body) s.state;
     } ∷
     -- the terminal sent what is to be compared
-    record { number = 34; status = fixed 0x6A88; kinds = VerifyAuxiliary ∷ []; holds = λ s. has_sent (comparison_in s.command.body) s.state.terminal } ∷
+    record { number = sent_rule; status = fixed 0x6A88; kinds = VerifyAuxiliary ∷ []; holds = λ s. has_sent (comparison_in s.command.body) s.state.terminal } ∷
     -- the data group that it is compared with is present, and holds something to compare
     record {
-      number = 35;
+      number = reference_rule;
       status = fixed 0x6A88;
       kinds = VerifyAuxiliary ∷ [];
       holds = λ s. has_reference (compared_of s.kept (comparison_in s.command.body) s.state.terminal);
     } ∷
     -- the comparison holds
     record {
-      number = 36;
+      number = comparison_rule;
       status = fixed 0x6300;
       kinds = VerifyAuxiliary ∷ [];
       holds = λ s. is_yes (compared_of s.kept (comparison_in s.command.body) s.state.terminal);
     } ∷
     -- the file is present
-    record { number = 37; status = fixed 0x6A82; kinds = ReadBinary ∷ UpdateBinary ∷ []; holds = λ s. is_some (bytes_of_file s.kept (file_meant s)) } ∷
+    record { number = present_rule; status = fixed 0x6A82; kinds = ReadBinary ∷ UpdateBinary ∷ []; holds = λ s. is_some (bytes_of_file s.kept (file_meant s)) } ∷
     -- the offset is at most the file's length
     record {
       number = offset_rule;
@@ -730,7 +728,7 @@ kind_rules =
     } ∷
     -- the sector keys are those of the terminal, by their hashes
     record {
-      number = 40;
+      number = sector_rule;
       status = fixed 0x6300;
       kinds = PerformRestrictedIdentification ∷ [];
       holds = λ s. are_its_sectors s.state.certificates.sectors (sector_keys_in s.command.body);
@@ -744,7 +742,7 @@ kind_rules =
     } ∷
     -- the certificate is issued under the name that was selected
     record {
-      number = selected_rule;
+      number = issuer_rule;
       status = fixed 0x6300;
       kinds = VerifyCertificate ∷ [];
       holds = λ s. says (is_issued_by (name_chosen s.state.phase)) (certificate_in s.command.body);
@@ -775,25 +773,25 @@ kind_rules =
 abbrev pub answer_rules : List RuleRow
 answer_rules =
     -- no question of this command met a fault
-    record { number = 50; status = fixed 0x6F00; kinds = []; holds = λ s. not (list_any is_fault s.answers) } ∷
+    record { number = fault_rule; status = fixed 0x6F00; kinds = []; holds = λ s. not (list_any is_fault s.answers) } ∷
     -- the terminal's ephemeral point differs from the chip's
-    record { number = 51; status = fixed 0x6300; kinds = PerformKeyAgreement ∷ []; holds = λ s. not (is_own_point (data_in s.command.body) s.answers) } ∷
+    record { number = same_point_rule; status = fixed 0x6300; kinds = PerformKeyAgreement ∷ []; holds = λ s. not (is_own_point (data_in s.command.body) s.answers) } ∷
     -- no question was answered with no point
     record {
-      number = 52;
+      number = no_point_rule;
       status = fixed 0x6A80;
       kinds = MapNonce ∷ PerformKeyAgreement ∷ AuthenticateChip ∷ PerformRestrictedIdentification ∷ [];
       holds = λ s. not (list_any is_no_point s.answers);
     } ∷
     -- the signature was not found wrong
-    record { number = 53; status = fixed 0x6300; kinds = VerifyCertificate ∷ ExternalAuthenticate ∷ []; holds = λ s. not (list_any is_wrong s.answers) } ∷ []
+    record { number = signature_rule; status = fixed 0x6300; kinds = VerifyCertificate ∷ ExternalAuthenticate ∷ []; holds = λ s. not (list_any is_wrong s.answers) } ∷ []
 
 -- whether there is room for what is to be committed
 abbrev pub commit_rules : List RuleRow
 commit_rules =
     -- where there is something to commit: the commit number is not too great
     record {
-      number = 54;
+      number = number_rule;
       status = fixed 0x6581;
       kinds = committing;
       holds = λ s. are_none (to_commit s.kind s) || nat_le s.kept.fields.number LAST_NUMBER;
@@ -804,7 +802,7 @@ abbrev pub proof_rules : List RuleRow
 proof_rules =
     -- the token is right
     record {
-      number = 55;
+      number = token_rule;
       status = λ s. token_status s.kept.fields (proves_pin s.state.phase);
       kinds = MutualAuthentication ∷ [];
       holds = λ s. is_token (data_in s.command.body) s.state.phase;

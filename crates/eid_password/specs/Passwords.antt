@@ -1,6 +1,7 @@
 -- The passwords that a record keeps, and when PACE may start with one (BSI TR-03110-2: the PIN is operational, suspended,
--- blocked or deactivated). How many tries there are, and the numbers of the rules, are this project's own.
+-- blocked or deactivated). How many tries there are is this project's own.
 use Rattle.std.specs.Prelude.{ℕ, ◌+◌, Bool, true, false, ◌||◌, not, nat_le, nat_lt, List, Option, Some, None, Result, Ok, Err, if◌then◌else◌}
+use Rattle.eid_base.specs.Rules.{active_rule, try_rule, resumed_rule}
 use Rattle.eid_base.specs.declared.codes.Rule.{Rule}
 use Rattle.eid_record.specs.Plain.{PlainRecord}
 use Rattle.eid_record.specs.declared.fields.Password.{Password}
@@ -41,17 +42,7 @@ has_try kept = nat_le 1 kept.tries
 abbrev pub is_resumed : PlainRecord → (by_can : Bool) → Bool
 is_resumed kept by_can = nat_le 2 kept.tries || by_can
 
--- the rules that a start can fail: the PIN is active; a try is left; it is not suspended
-abbrev pub active_rule : ℕ
-active_rule = 15
-
-abbrev pub try_rule : ℕ
-try_rule = 16
-
-abbrev pub resumed_rule : ℕ
-resumed_rule = 17
-
--- the first of them that fails at a start with the PIN
+-- the first rule that fails at a start with the PIN
 abbrev pub pin_refusal : PlainRecord → (by_can : Bool) → Option ℕ
 pin_refusal kept by_can =
     if not kept.active then Some active_rule

@@ -2,6 +2,5 @@
 #![tactic(auto)]
 
 mod passwords;
-pub mod rules;
 
 pub use passwords::{digits, may_start, select_status};

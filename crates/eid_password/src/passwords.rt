@@ -3,7 +3,7 @@ ghost use Rattle.eid_record.specs.View.{record_view};
 ghost use Rattle.eid_password.specs.Passwords as passwords;
 ghost use Rattle.eid_password.specs.Passwords.{digits_of, refused_by, start_refusal};
 
-use crate::rules::{BLOCKED, INACTIVE, SUSPENDED};
+use eid_base::rules::{BLOCKED, INACTIVE, SUSPENDED};
 use eid_base::{Rule, Status};
 use eid_record::{Password, Record};
 

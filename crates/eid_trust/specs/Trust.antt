@@ -1,8 +1,9 @@
 -- The certificate chain of terminal authentication: who signs under a name, when a certificate is accepted, and what it
--- changes (BSI TR-03110-3). The numbers of the rules are this project's own.
+-- changes (BSI TR-03110-3).
 use Rattle.std.specs.Prelude.{ℕ, Bool, true, false, ◌&&◌, ◌||◌, not, nat_le, nat_lt, List, [], ◌∷◌, Option, Some, None, option_map, Result, Ok, Err, if◌then◌else◌}
 use Rattle.std.specs.Option.{option_or}
 use Rattle.std.specs.Str.{bytes_eq}
+use Rattle.eid_base.specs.Rules.{issuer_rule, role_rule, link_rule, expiry_rule}
 use Rattle.eid_bits.specs.Date.{number_of}
 use Rattle.eid_bits.specs.Rights.{role_of}
 use Rattle.eid_bits.specs.declared.template.Role.{Role}
@@ -43,22 +44,6 @@ key_of (OfVerifier verifier) = verifier.key
 
 -- ---- when a certificate is accepted, once its signature is right
 
--- the certificate is issued under the name that was selected
-abbrev pub selected_rule : ℕ
-selected_rule = 42
-
--- a trust point signs links and document verifiers, a document verifier signs terminals
-abbrev pub role_rule : ℕ
-role_rule = 43
-
--- a link is signed by the current trust point, or is the current trust point's own
-abbrev pub link_rule : ℕ
-link_rule = 44
-
--- the certificate of another role has not expired
-abbrev pub expiry_rule : ℕ
-expiry_rule = 45
-
 -- a link certificate is one of a country verifying certification authority
 abbrev pub is_link_role : Role → Bool
 is_link_role Cvca = true
@@ -96,10 +81,10 @@ is_of_current kept c = bytes_eq kept.current.name c.issuer || bytes_eq kept.curr
 abbrev pub is_in_date : PlainRecord → PlainBody → Bool
 is_in_date kept c = nat_le (number_of kept.date) (number_of c.expiry)
 
--- the first of these rules that fails
+-- the first rule that fails
 abbrev pub refusal : PlainRecord → PlainChain → (selected : List ℕ) → PlainBody → Option ℕ
 refusal kept chain selected c =
-    if not (is_issued_by selected c) then Some selected_rule
+    if not (is_issued_by selected c) then Some issuer_rule
     else if not (may_sign (signer_of kept chain c.issuer) (role_of c.template)) then Some role_rule
     else if is_link c && not (is_of_current kept c) then Some link_rule
     else if not (is_link c) && not (is_in_date kept c) then Some expiry_rule

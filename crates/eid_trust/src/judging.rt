@@ -6,9 +6,9 @@ ghost use Rattle.eid_record.specs.View.{record_view};
 ghost use Rattle.eid_trust.specs.Trust.{is_in_date, is_link, is_of_current, refusal, judged_by, signer_of};
 ghost use Rattle.eid_trust.specs.View.{judged};
 
-use crate::rules::{EXPIRED, NOT_SELECTED, WRONG_LINK, WRONG_SIGNER};
 use crate::signing::{Authority, find_signer};
 use eid_base::Rule;
+use eid_base::rules::{EXPIRED, OTHER_ISSUER, WRONG_LINK, WRONG_SIGNER};
 use eid_bits::Role;
 use eid_cvc::{Certificate, ChainState};
 use eid_record::Record;
@@ -27,7 +27,7 @@ pub(crate) fn judge<'a>(
         (refusal (record_view kept.now) (chain_view chain.now) selected.now body) }
 {
     if c.issuer != selected {
-        return Err(NOT_SELECTED);
+        return Err(OTHER_ISSUER);
     }
     let Some(signer) = find_signer(kept, chain, c.issuer) else {
         return Err(WRONG_SIGNER);

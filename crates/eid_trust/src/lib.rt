@@ -5,7 +5,6 @@
 mod accepting;
 mod changes;
 mod judging;
-pub mod rules;
 mod signing;
 
 pub use accepting::{Accepted, accept};
