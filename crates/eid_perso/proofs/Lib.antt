@@ -1,5 +1,4 @@
 pub mod FileLines
-pub mod Images
 pub mod ReadFiles
 pub mod Documents
 pub mod ReadItems

@@ -5,6 +5,7 @@ use Rattle.eid_record.specs.Plain.{PlainRecord, FullRecord}
 use Rattle.eid_record.specs.Reading.{size}
 use Rattle.eid_record.specs.Valid.{IsValid, lengths_fit}
 use Rattle.eid_record.specs.View.{record_view}
+use Rattle.eid_store.specs.Layouts.{two_slot_layout}
 use Rattle.eid_perso.specs.declared.config.Config.{Config}
 
 -- the layout, the record's fields, and the bytes of the files that are there, in the order of the files' numbers
@@ -20,9 +21,9 @@ config_view c = record { layout = c.layout; fields = record_view c.kept; files =
 abbrev pub full_record : PlainConfig → FullRecord
 full_record c = full_of c.fields c.files
 
--- layout 1, fields that a record may have, and as many bytes as the files have together
+-- layout 1, the fields that a record may have, and as many bytes as the files have together
 pub record IsWhole (c : PlainConfig) : Type 0 where
-  pub layout : c.layout ≡ 1
+  pub layout : c.layout ≡ two_slot_layout
   pub valid : IsValid c.fields
   pub files : length c.files ≡ total c.fields.lengths
 

@@ -4,6 +4,7 @@ use Rattle.std.specs.Prelude.{ℕ, ◌+◌, Bool, true, List, [], ◌∷◌, ◌
 use Rattle.toml.specs.Data.{Data, Members, get_member, as_bool}
 use Rattle.eid_record.specs.Plain.{PlainTrustPoint}
 use Rattle.eid_record.specs.Reading.{◌>>=◌}
+use Rattle.eid_store.specs.Layouts.{two_slot_layout}
 use Rattle.eid_perso.specs.Config.{PlainConfig}
 use Rattle.eid_perso.specs.Forms.{whole, digits, date, name, sized, point, file}
 use Rattle.eid_perso.specs.Names.{file_names}
@@ -41,7 +42,7 @@ optional key absent m = given_or key.number key.form absent (get_member key.name
 -- the table; behind these rows stand the files, from number 18 on
 
 abbrev pub layout_key : Key ℕ
-layout_key = row 1 (codes "layout") (whole 1 1)
+layout_key = row 1 (codes "layout") (whole two_slot_layout two_slot_layout)
 
 abbrev pub number_key : Key ℕ
 number_key = row 2 (codes "number") (whole 0 4294967295)
@@ -94,7 +95,7 @@ ri_secret_key = row 17 (codes "ri_secret") (sized 32)
 -- layout and commit number
 unfoldable pub start_in : Members → Result (ℕ × ℕ) ℕ
 start_in m = do
-  layout ← optional layout_key 1 m
+  layout ← optional layout_key two_slot_layout m
   number ← optional number_key 0 m
   Ok (layout, number)
 

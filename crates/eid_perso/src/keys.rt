@@ -3,6 +3,7 @@ ghost use Rattle.std.specs.Prelude.{◌≡◌, ◌≤◌, IfOk, length, option_m
 ghost use Rattle.std.specs.Option.{ForSome};
 ghost use Rattle.eid_record.specs.Valid.{AreDigits, IsTrustPoint};
 ghost use Rattle.eid_record.specs.View.{trust_point_view};
+ghost use Rattle.eid_store.specs.Layouts.{two_slot_layout};
 ghost use Rattle.toml.specs.Data.{get_member};
 ghost use Rattle.toml.specs.View.{view, table_view};
 ghost use Rattle.eid_perso.specs.Keys.{start_in, passwords_in, counters_in, current_in, named_previous_in, previous_in, secrets_in};
@@ -14,6 +15,7 @@ use crate::form::{
 };
 use eid_base::Secret;
 use eid_record::TrustPoint;
+use eid_store::TWO_SLOTS;
 use toml::{Table, Value};
 
 /// The value of a key, if it is there.
@@ -27,7 +29,10 @@ pub fn value_at<'a>(table: &'a Table, key: &str) -> Option<&'a Value>
 const LAYOUT: Key<Whole> = Key {
     number: 1,
     name: "layout",
-    form: Whole { least: 1, most: 1 },
+    form: Whole {
+        least: TWO_SLOTS as u32,
+        most: TWO_SLOTS as u32,
+    },
 };
 
 const NUMBER: Key<Whole> = Key {
@@ -133,9 +138,9 @@ const RI_SECRET: Key<Hex<32>> = Key {
 #[tactic(auto, unfolding(crate::specs::Keys::start_in))]
 pub fn start(table: &Table) -> Result<(u32, u32), ConfigError>
     ensures reads { Reads (λ s. s) result (start_in (table_view table.now)) }
-    ensures layout { IfOk result (λ s. s.0 ≡ 1) }
+    ensures layout { IfOk result (λ s. s.0 ≡ two_slot_layout) }
 {
-    let layout = optional(table, &LAYOUT, 1)?;
+    let layout = optional(table, &LAYOUT, u32::from(TWO_SLOTS))?;
     let number = optional(table, &NUMBER, 0)?;
     Ok((layout, number))
 }

@@ -1,14 +1,14 @@
 -- What holds of every store and of the cells that it fits: what proofs in crates above cite.
-use Rattle.std.proofs.Common.{◌≡◌, ℕ, ◌≤◌, List, length, Option, Some, None, IsTrue, refl}
+use Rattle.std.proofs.Common.{◌≡◌, ℕ, List, length, Option, Some, None, IsTrue, refl}
 use Rattle.std.specs.Prelude.{IsSomeAnd}
 use Rattle.eid_cells.specs.Device.{Device}
-use Rattle.eid_record.specs.Plain.{PlainEffect, FullRecord}
+use Rattle.eid_record.specs.Plain.{FullRecord}
 use Rattle.eid_store.specs.declared.store.Store.{Store}
 use Rattle.eid_store.specs.declared.store.Store.TheVariants.{Slots}
 use Rattle.eid_store.specs.Complete.{IsComplete}
 use Rattle.eid_store.specs.Stands.{stands}
-use Rattle.eid_store.specs.Store.{fields_of, Fits, mount_cost, commit_cost}
-use Rattle.eid_store.proofs.TwoSlotLaws.{two_slot_complete, two_slot_fitting, two_slot_refitting, two_slot_mount, two_slot_commit}
+use Rattle.eid_store.specs.Store.{fields_of, Fits}
+use Rattle.eid_store.proofs.TwoSlotLaws.{two_slot_complete, two_slot_fitting, two_slot_refitting}
 
 pub complete : (cells : List ℕ) (full : FullRecord) → length cells ≡ 65536 → stands cells ≡ Some full → IsComplete full
 unfolding stands
@@ -34,12 +34,3 @@ some_and (Some full) P h = (full, refl, h)
 -- the record that the cells stand for has the store's fields
 pub stood_for : (store : Store) (device : Device) (cells : List ℕ) → Fits store device cells → (full : FullRecord) × (stands cells ≡ Some full) × (full.fields ≡ fields_of store)
 stood_for store device cells fits = some_and (stands cells) _ (fitting store device cells fits).1
-
-pub mount_bound : (cells : List ℕ) → mount_cost cells ≤ 40
-unfolding mount_cost
-mount_bound cells = two_slot_mount cells
-
-pub commit_bound : (store : Store) (device : Device) (cells : List ℕ) (effect : PlainEffect) → length cells ≡ 65536 → Fits store device cells
-    → (5 ≤ commit_cost store cells effect) × (commit_cost store cells effect ≤ 384)
-unfolding Fits commit_cost
-commit_bound (Slots slots) device cells effect long fits = two_slot_commit slots device cells effect long fits

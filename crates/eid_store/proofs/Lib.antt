@@ -8,4 +8,5 @@ pub mod Turning
 pub mod Committed
 pub mod Fitting
 pub mod TwoSlotLaws
+pub mod NewCells
 pub mod Laws

@@ -75,9 +75,6 @@ two_slot_fitting store device cells fits = (fits.power, fits.stands)
 pub two_slot_refitting : (store : TwoSlot) (old new : Device) (cells : List ℕ) → TwoSlotFits store old cells → IsTrue new.has_power → TwoSlotFits store new cells
 two_slot_refitting store old new cells fits power = record { power = power; stands = fits.stands; slot = fits.slot }
 
-pub two_slot_mount : (cells : List ℕ) → 0 ≤ 40
-two_slot_mount cells = omega arith
-
 pub two_slot_commit : (store : TwoSlot) (device : Device) (cells : List ℕ) (effect : PlainEffect) → length cells ≡ 65536 → TwoSlotFits store device cells
     → (5 ≤ commit_writes store cells effect) × (commit_writes store cells effect ≤ 384)
 two_slot_commit store device cells effect long fits =

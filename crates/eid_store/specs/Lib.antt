@@ -1,5 +1,7 @@
+pub mod Layouts
 pub mod Slots
 pub mod Stands
+pub mod NewCells
 pub mod Complete
 pub mod Cost
 pub mod Pages

@@ -1,6 +1,6 @@
 -- Inside: cited by private contracts alone.
 -- The bytes that a commit writes.
-use Rattle.std.specs.Prelude.{ℕ, ◌+◌, ◌-◌, ◌*◌, ◌/◌, List, [], ◌++◌, length, take, drop, replicate, Option, slice_range}
+use Rattle.std.specs.Prelude.{ℕ, ◌+◌, ◌-◌, ◌*◌, List, [], ◌++◌, length, take, drop, replicate, Option, slice_range}
 use Rattle.eid_record.specs.Files.{total}
 use Rattle.eid_record.specs.Layout.{replaced}
 use Rattle.eid_record.specs.Plain.{PlainEffect, Write}

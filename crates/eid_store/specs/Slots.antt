@@ -4,10 +4,6 @@ use Rattle.std.specs.Int.{w32, from_be_bytes}
 use Rattle.eid_store.specs.declared.slot.Slot.{Slot}
 use Rattle.eid_store.specs.declared.slot.Slot.TheVariants.{A, B}
 
--- cell 0 of this layout
-abbrev pub two_slot_layout : ℕ
-two_slot_layout = 1
-
 -- the cell of the slot's gate
 abbrev pub gate_of : Slot → ℕ
 gate_of A = 64

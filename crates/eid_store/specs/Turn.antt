@@ -1,12 +1,12 @@
 -- Inside: cited by private contracts alone.
 -- What turning from one slot to the other leaves.
-use Rattle.std.specs.Prelude.{◌≡◌, ℕ, ◌+◌, ◌*◌, true, false, List, take}
+use Rattle.std.specs.Prelude.{◌≡◌, ℕ, ◌*◌, true, false, List, take}
 use Rattle.eid_store.specs.declared.slot.Slot.{Slot}
 use Rattle.eid_store.specs.declared.next.NewRecord.{NewRecord}
 use Rattle.eid_store.specs.Slots.{other_of, is_open, room_of}
 use Rattle.eid_store.specs.Pages.{filled}
 use Rattle.eid_store.specs.NewRecord.{next_bytes}
-use Rattle.eid_store.specs.Cost.{once, page_count}
+use Rattle.eid_store.specs.Cost.{page_count}
 
 -- a slot is as it was
 pub record SameSlot (slot : Slot) (old new : List ℕ) : Type 0 where

@@ -1,4 +1,4 @@
-ghost use Rattle.std.specs.Prelude.{◌≡◌, ℕ, ◌+◌, ◌<◌, ◌≤◌, ◌↔◌, List, Option, Some, None, IsTrue, IsSomeAnd, IfOk, OnOk, OnErr, length, slice_index};
+ghost use Rattle.std.specs.Prelude.{◌≡◌, ℕ, ◌+◌, ◌<◌, ◌≤◌, ◌↔◌, List, Option, Some, None, IsTrue, IsSome, IsSomeAnd, IfOk, OnOk, OnErr, length};
 ghost use Rattle.std.specs.Option.{option_map, option_and_then};
 ghost use Rattle.eid_cells.specs.Device.{Device};
 ghost use Rattle.eid_record.specs.Plain.{PlainRecord, PlainEffect, FullRecord};
@@ -25,6 +25,7 @@ pub trait Durable: Sized {
     ghost use Rattle.eid_store.specs.Complete.{IsComplete};
     ghost use Rattle.eid_store.specs.Cost.{Costs};
     ghost use Rattle.eid_store.specs.Durable.{IsAllOrNothing, Mounts, is_spend};
+    ghost use Rattle.eid_store.specs.Layouts.{layout_of};
     ghost use Rattle.eid_store.specs.Receipt.{receipt_number, receipt_spends};
 
     /// The full record that cells stand for; none where they are of another layout.
@@ -42,8 +43,8 @@ pub trait Durable: Sized {
     /// How many writes a commit of the effect to these cells takes.
     ghost commit_cost: { Self → List ℕ → PlainEffect → ℕ };
 
-    /// Mounts the record that the cells stand for; a cut leaves them standing for it. `BadImage` comes exactly where
-    /// they stand for none.
+    /// Mounts the record that the cells stand for, in at most 40 writes; a cut leaves them standing for it. `BadImage`
+    /// comes exactly where they stand for none.
     fn mount<E: Eeprom>(cells: &mut E) -> Result<Self, MountError>
         requires power { IsTrue (E.device cells.old).has_power }
         ensures fits { IfOk result (λ store. fits store (E.device cells.new) (E.cells cells.new)) }
@@ -52,9 +53,10 @@ pub trait Durable: Sized {
         ensures untouched { result ≡ Err MountError.BadImage
             → E.cells cells.new ≡ E.cells cells.old }
         ensures same { stands (E.cells cells.new) ≡ stands (E.cells cells.old) }
-        ensures layout { slice_index (E.cells cells.new) 0 ≡ slice_index (E.cells cells.old) 0 }
+        ensures layout { layout_of (E.cells cells.new) ≡ layout_of (E.cells cells.old) }
         ensures cost { Mounts (mount_cost (E.cells cells.old))
-            (E.device cells.old) (E.device cells.new) result };
+            (E.device cells.old) (E.device cells.new) result }
+        ensures most { IsSome (stands (E.cells cells.old)) → mount_cost (E.cells cells.old) ≤ 40 };
 
     /// The record's fields, which are those that the cells stand for.
     fn kept(&self) -> &Record
@@ -67,8 +69,8 @@ pub trait Durable: Sized {
         ensures { option_and_then (file_range file.0 offset (length into.old))
             (stands (E.cells cells.now)) ≡ Some into.new };
 
-    /// Commits the effect and raises the commit number by one. At `Ok` the cells stand for the record after it. After
-    /// `Cut` they stand for the record before it or after it, and the store is mounted anew.
+    /// Commits the effect and raises the commit number by one, in 5 to 384 writes. At `Ok` the cells stand for the
+    /// record after it. After `Cut` they stand for the record before it or after it, and the store is mounted anew.
     fn commit<E: Eeprom>(&mut self, cells: &mut E, effect: &Effect<'_>) -> Result<Receipt, Cut>
         requires fits { fits self.old (E.device cells.old) (E.cells cells.old) }
         requires effect { CanApply (effect_view effect.now) (fields self.old) }
@@ -80,9 +82,11 @@ pub trait Durable: Sized {
             × (receipt_spends receipt ≡ is_spend (effect_view effect.now))) }
         ensures cut { OnErr result (IsAllOrNothing (effect_view effect.now)
             (stands (E.cells cells.old)) (stands (E.cells cells.new))) }
-        ensures layout { slice_index (E.cells cells.new) 0 ≡ slice_index (E.cells cells.old) 0 }
+        ensures layout { layout_of (E.cells cells.new) ≡ layout_of (E.cells cells.old) }
         ensures cost { Costs (commit_cost self.old (E.cells cells.old) (effect_view effect.now))
-            (E.device cells.old) (E.device cells.new) result };
+            (E.device cells.old) (E.device cells.new) result }
+        ensures least { 5 ≤ commit_cost self.old (E.cells cells.old) (effect_view effect.now) }
+        ensures most { commit_cost self.old (E.cells cells.old) (effect_view effect.now) ≤ 384 };
 
     /// Cells that stand for a record stand for a complete one.
     fn law_complete()
@@ -96,11 +100,4 @@ pub trait Durable: Sized {
             → IsTrue device.has_power × IsSomeAnd (stands cells) (λ full. full.fields ≡ fields store) }
         ensures device { (store : Self) (old new : Device) (cells : List ℕ) → fits store old cells
             → IsTrue new.has_power → fits store new cells };
-
-    /// Mounting takes at most 40 writes; a commit to cells that a store fits at least 5, and at most 384.
-    fn law_costs()
-        ensures mount { (cells : List ℕ) → mount_cost cells ≤ 40 }
-        ensures commit { (store : Self) (device : Device) (cells : List ℕ) (effect : PlainEffect)
-            → length cells ≡ 65536 → fits store device cells
-            → (5 ≤ commit_cost store cells effect) × (commit_cost store cells effect ≤ 384) };
 }

@@ -1,12 +1,12 @@
 //! What holds of every store and of the cells that it fits, whatever their layout.
 
-ghost use Rattle.std.specs.Prelude.{◌≡◌, ℕ, ◌≤◌, List, Some, IsTrue, IsSomeAnd, length};
+ghost use Rattle.std.specs.Prelude.{◌≡◌, ℕ, List, Some, IsTrue, IsSomeAnd, length};
 ghost use Rattle.eid_cells.specs.Device.{Device};
-ghost use Rattle.eid_record.specs.Plain.{PlainEffect, FullRecord};
+ghost use Rattle.eid_record.specs.Plain.{FullRecord};
 ghost use Rattle.eid_store.specs.declared.store.Store.{Store};
 ghost use Rattle.eid_store.specs.Complete.{IsComplete};
 ghost use Rattle.eid_store.specs.Stands.{stands};
-ghost use Rattle.eid_store.specs.Store.{fields_of, Fits, mount_cost, commit_cost};
+ghost use Rattle.eid_store.specs.Store.{fields_of, Fits};
 
 /// Cells that stand for a record stand for a complete one: its fields are valid, and its files have the lengths that
 /// the fields say.
@@ -22,12 +22,4 @@ pub fn law_fits()
         → IsTrue device.has_power × IsSomeAnd (stands cells) (λ full. full.fields ≡ fields_of store) }
     ensures device { (store : Store) (old new : Device) (cells : List ℕ) → Fits store old cells
         → IsTrue new.has_power → Fits store new cells }
-{}
-
-/// Mounting takes at most 40 writes; a commit to cells that a store fits at least 5, and at most 384.
-pub fn law_costs()
-    ensures mount { (cells : List ℕ) → mount_cost cells ≤ 40 }
-    ensures commit { (store : Store) (device : Device) (cells : List ℕ) (effect : PlainEffect)
-        → length cells ≡ 65536 → Fits store device cells
-        → (5 ≤ commit_cost store cells effect) × (commit_cost store cells effect ≤ 384) }
 {}

@@ -5,8 +5,8 @@ ghost use Rattle.std.specs.Prelude.{◌≡◌};
 
 use eid_record::{FIXED, MAX_FILES};
 
-/// Cell 0 of layout 1.
-pub const LAYOUT: u8 = 1;
+/// Layout 1, which the first cell names: two slots.
+pub const TWO_SLOTS: u8 = 1;
 /// The value of a gate that is open; each other value is closed.
 pub const OPEN: u8 = 0xA5;
 /// The value that closes a gate.

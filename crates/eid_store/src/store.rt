@@ -1,4 +1,4 @@
-ghost use Rattle.std.specs.Prelude.{◌≡◌, ◌+◌, ◌<◌, ◌↔◌, None, Some, IsTrue, IfOk, OnOk, OnErr, length, slice_index};
+ghost use Rattle.std.specs.Prelude.{◌≡◌, ◌+◌, ◌<◌, ◌≤◌, ◌↔◌, None, Some, IsTrue, IsSome, IfOk, OnOk, OnErr, length};
 ghost use Rattle.std.specs.Option.{option_map, option_and_then};
 ghost use Rattle.eid_record.specs.Effect.{CanApply, HasRange, committed};
 ghost use Rattle.eid_record.specs.EffectView.{effect_view};
@@ -22,12 +22,13 @@ pub enum Store {
 impl Store {
     ghost use Rattle.eid_store.specs.Cost.{Costs};
     ghost use Rattle.eid_store.specs.Durable.{IsAllOrNothing, Mounts, is_spend};
+    ghost use Rattle.eid_store.specs.Layouts.{layout_of};
     ghost use Rattle.eid_store.specs.Receipt.{receipt_number, receipt_spends};
     ghost use Rattle.eid_store.specs.Stands.{stands};
     ghost use Rattle.eid_store.specs.Store.{fields_of, Fits, mount_cost, commit_cost};
 
-    /// Mounts the record that the cells stand for; a cut leaves them standing for it. `BadImage` comes exactly where
-    /// they stand for none.
+    /// Mounts the record that the cells stand for, in at most 40 writes; a cut leaves them standing for it. `BadImage`
+    /// comes exactly where they stand for none.
     pub fn mount<E: Eeprom>(cells: &mut E) -> Result<Store, MountError>
         requires power { IsTrue (E.device cells.old).has_power }
         ensures fits { IfOk result (λ store. Fits store (E.device cells.new) (E.cells cells.new)) }
@@ -36,9 +37,10 @@ impl Store {
         ensures untouched { result ≡ Err MountError.BadImage
             → E.cells cells.new ≡ E.cells cells.old }
         ensures same { stands (E.cells cells.new) ≡ stands (E.cells cells.old) }
-        ensures layout { slice_index (E.cells cells.new) 0 ≡ slice_index (E.cells cells.old) 0 }
+        ensures layout { layout_of (E.cells cells.new) ≡ layout_of (E.cells cells.old) }
         ensures cost { Mounts (mount_cost (E.cells cells.old))
             (E.device cells.old) (E.device cells.new) result }
+        ensures most { IsSome (stands (E.cells cells.old)) → mount_cost (E.cells cells.old) ≤ 40 }
     {
         match TwoSlot::mount(cells) {
             Ok(slots) => Ok(Store::Slots(slots)),
@@ -67,8 +69,8 @@ impl Store {
         }
     }
 
-    /// Commits the effect and raises the commit number by one. At `Ok` the cells stand for the record after it. After
-    /// `Cut` they stand for the record before it or after it, and the store is mounted anew.
+    /// Commits the effect and raises the commit number by one, in 5 to 384 writes. At `Ok` the cells stand for the
+    /// record after it. After `Cut` they stand for the record before it or after it, and the store is mounted anew.
     pub fn commit<E: Eeprom>(&mut self, cells: &mut E, effect: &Effect<'_>) -> Result<Receipt, Cut>
         requires fits { Fits self.old (E.device cells.old) (E.cells cells.old) }
         requires effect { CanApply (effect_view effect.now) (fields_of self.old) }
@@ -80,9 +82,11 @@ impl Store {
             × (receipt_spends receipt ≡ is_spend (effect_view effect.now))) }
         ensures cut { OnErr result (IsAllOrNothing (effect_view effect.now)
             (stands (E.cells cells.old)) (stands (E.cells cells.new))) }
-        ensures layout { slice_index (E.cells cells.new) 0 ≡ slice_index (E.cells cells.old) 0 }
+        ensures layout { layout_of (E.cells cells.new) ≡ layout_of (E.cells cells.old) }
         ensures cost { Costs (commit_cost self.old (E.cells cells.old) (effect_view effect.now))
             (E.device cells.old) (E.device cells.new) result }
+        ensures least { 5 ≤ commit_cost self.old (E.cells cells.old) (effect_view effect.now) }
+        ensures most { commit_cost self.old (E.cells cells.old) (effect_view effect.now) ≤ 384 }
     {
         match self {
             Store::Slots(slots) => slots.commit(cells, effect),

@@ -1,7 +1,8 @@
 //! From the current slot to the other one.
 
-ghost use Rattle.std.specs.Prelude.{◌≡◌, IsTrue, OnOk, OnErr, slice_index};
+ghost use Rattle.std.specs.Prelude.{◌≡◌, IsTrue, OnOk, OnErr};
 ghost use Rattle.eid_store.specs.Cost.{Costs, turn_cost};
+ghost use Rattle.eid_store.specs.Layouts.{layout_of};
 ghost use Rattle.eid_store.specs.NewRecord.{IsReady};
 ghost use Rattle.eid_store.specs.Turn.{SameSlot, IsTurned, WasTurning};
 
@@ -18,7 +19,7 @@ pub fn turn<E: Eeprom>(cells: &mut E, slot: Slot, next: &NewRecord<'_>) -> Resul
     ensures turned { OnOk result (IsTurned slot next.now (E.cells cells.old) (E.cells cells.new)) }
     ensures cut { OnErr result (WasTurning slot next.now (E.cells cells.old) (E.cells cells.new)) }
     ensures same { SameSlot slot (E.cells cells.old) (E.cells cells.new) }
-    ensures layout { slice_index (E.cells cells.new) 0 ≡ slice_index (E.cells cells.old) 0 }
+    ensures layout { layout_of (E.cells cells.new) ≡ layout_of (E.cells cells.old) }
     ensures cost { Costs (turn_cost slot next.now.size (E.cells cells.old))
         (E.device cells.old) (E.device cells.new) result }
 {

@@ -1,4 +1,4 @@
-ghost use Rattle.std.specs.Prelude.{◌≡◌, ℕ, ◌+◌, ◌<◌, ◌≤◌, ◌↔◌, List, Option, Some, None, Ok, Err, true, IsTrue, IfOk, IfSome, IfNone, OnOk, OnErr, length, slice_index, slice_range, take};
+ghost use Rattle.std.specs.Prelude.{◌≡◌, ℕ, ◌+◌, ◌<◌, ◌≤◌, ◌↔◌, List, Option, Some, None, Ok, Err, true, IsTrue, IsSome, IfOk, IfSome, IfNone, OnOk, OnErr, length, slice_range, take};
 ghost use Rattle.std.specs.Option.{option_map, option_and_then};
 ghost use Rattle.eid_cells.specs.Device.{Device};
 ghost use Rattle.eid_record.specs.Plain.{PlainRecord, PlainEffect, FullRecord};
@@ -16,7 +16,7 @@ use crate::files::{change_of, files_size, place_of};
 use crate::gates::is_open;
 use crate::next::{NewRecord, advance};
 use crate::receipt::Receipt;
-use crate::slot::{FILES_FROM, LAYOUT, Slot};
+use crate::slot::{FILES_FROM, Slot, TWO_SLOTS};
 use crate::turn::turn;
 use eid_cells::{Cut, Eeprom};
 use eid_record::{Effect, FIXED, FileNo, Record, read_record};
@@ -71,7 +71,7 @@ fn mounted<E: Eeprom>(cells: &E) -> Option<TwoSlot>
         (E.device cells.now) (E.cells cells.now)) }
     ensures none { IfNone result (two_slot_stands (E.cells cells.now) ≡ None) }
 {
-    if cell(cells, 0) != LAYOUT {
+    if cell(cells, 0) != TWO_SLOTS {
         return None;
     }
     let Some(slot) = current(cells) else {
@@ -89,6 +89,7 @@ impl Durable for TwoSlot {
     ghost use Rattle.eid_store.specs.Cost.{Costs};
     ghost use Rattle.eid_store.specs.Durable.{IsAllOrNothing, Mounts, is_spend};
     ghost use Rattle.eid_store.specs.Fits.{TwoSlotFits, two_slot_fields, commit_writes};
+    ghost use Rattle.eid_store.specs.Layouts.{layout_of};
     ghost use Rattle.eid_store.specs.Receipt.{receipt_number, receipt_spends};
 
     ghost stands = { two_slot_stands };
@@ -109,8 +110,9 @@ impl Durable for TwoSlot {
         ensures untouched { result ≡ Err MountError.BadImage
             → E.cells cells.new ≡ E.cells cells.old }
         ensures same { two_slot_stands (E.cells cells.new) ≡ two_slot_stands (E.cells cells.old) }
-        ensures layout { slice_index (E.cells cells.new) 0 ≡ slice_index (E.cells cells.old) 0 }
+        ensures layout { layout_of (E.cells cells.new) ≡ layout_of (E.cells cells.old) }
         ensures cost { Mounts 0 (E.device cells.old) (E.device cells.new) result }
+        ensures most { IsSome (two_slot_stands (E.cells cells.old)) → 0 ≤ 40 }
         // No write is made.
         ensures cells { E.cells cells.new ≡ E.cells cells.old }
         ensures device { E.device cells.new ≡ E.device cells.old }
@@ -149,6 +151,4 @@ impl Durable for TwoSlot {
     fn law_complete() {}
 
     fn law_fits() {}
-
-    fn law_costs() {}
 }

@@ -10,6 +10,7 @@ use Rattle.eid_perso.specs.Kit.{PlainKit}
 use Rattle.eid_record.specs.Files.{files_bytes}
 use Rattle.eid_record.specs.Plain.{FullRecord, PlainRecord, PlainTrustPoint}
 use Rattle.eid_record.specs.declared.fields.Password.TheVariants.{Pin}
+use Rattle.eid_store.specs.Layouts.{two_slot_layout}
 use Rattle.eid_terminal.specs.declared.plan.Request.{Request}
 use Rattle.eid_terminal.specs.declared.plan.Request.TheVariants.{File, Age}
 use Rattle.eid_terminal.specs.Plans.{PlainPlan}
@@ -123,7 +124,7 @@ abbrev pub big_record : ℕ → FullRecord
 big_record number = record { fields = big_fields number; files = big_files number }
 
 abbrev pub big_config : ℕ → PlainConfig
-big_config number = record { layout = 1; fields = big_fields number; files = files_bytes (big_files number) }
+big_config number = record { layout = two_slot_layout; fields = big_fields number; files = files_bytes (big_files number) }
 
 -- ---- the terminal
 

@@ -18,6 +18,7 @@ use eid_base::NoMemory;
 use eid_bits::Template;
 use eid_perso::{Config, image_of};
 use eid_record::{Password, Record, TrustPoint};
+use eid_store::TWO_SLOTS;
 use eid_terminal::{Plan, Request};
 use std::alloc::Global;
 
@@ -98,7 +99,7 @@ fn config_of(alloc: Global, number: u32) -> Result<Config, NoMemory>
     let digits = number.to_string(alloc)?;
     let files = files_with(alloc, digits.as_bytes())?;
     Ok(Config {
-        layout: 1,
+        layout: TWO_SLOTS,
         kept: record_of(number, digits.len() as u16),
         files,
     })

@@ -10,9 +10,9 @@ use Rattle.eid_store.proofs.two_slot.mounted.Goals as goal
 fixed_is : (slot : Slot) (place : ℕ) (cells fixed : List ℕ) → place ≡ record_of slot → fixed ≡ slice_range cells place (place + 448) → fixed ≡ take 448 (room_of slot cells)
 fixed_is slot place cells fixed there read = read ∙ ap (λ (p : ℕ). slice_range cells p (p + 448)) there ∙ room_front slot cells 448 (omega arith)
 
-pub returns-then-cell-ne-LAYOUT-clause-none : goal.returns-then-cell-ne-LAYOUT-clause-none
-returns-then-cell-ne-LAYOUT-clause-none g c =
-    not_the_layout (g.E.Eeprom.cells c.args.cells.now) (λ e. c.if-cell-ne-LAYOUT.true (c.cell.ensures ∙ e))
+pub returns-then-cell-ne-TWO_SLOTS-clause-none : goal.returns-then-cell-ne-TWO_SLOTS-clause-none
+returns-then-cell-ne-TWO_SLOTS-clause-none g c =
+    not_the_layout (g.E.Eeprom.cells c.args.cells.now) (λ e. c.if-cell-ne-TWO_SLOTS.true (c.cell.ensures ∙ e))
 
 pub returns-in_default-clause-none : goal.returns-in_default-clause-none
 returns-in_default-clause-none g c = no_slot (g.E.Eeprom.cells c.args.cells.now) (sym c.current.ensures ∙ c.in_default.is)
@@ -22,7 +22,7 @@ returns-in-Ok-clause-fits g c =
     let cells = g.E.Eeprom.cells c.args.cells.now in
     let slot = c.in-Some.slot in
     let fixed = fixed_is slot c.record.result cells c.read.new.into c.record.ensures c.read.ensures in
-    mounted_fits c.in-Ok.kept slot (g.E.Eeprom.device c.args.cells.now) cells c.requires (sym c.cell.ensures ∙ c.if-cell-ne-LAYOUT.false) (sym c.current.ensures ∙ c.in-Some.is)
+    mounted_fits c.in-Ok.kept slot (g.E.Eeprom.device c.args.cells.now) cells c.requires (sym c.cell.ensures ∙ c.if-cell-ne-TWO_SLOTS.false) (sym c.current.ensures ∙ c.in-Some.is)
     (sym (ap record_in fixed) ∙ c.in-Ok.ensures.exact)
 
 pub returns-in-Err-clause-none : goal.returns-in-Err-clause-none

@@ -16,6 +16,7 @@ use Rattle.eid_store.specs.declared.two_slot.TwoSlot.{TwoSlot}
 use Rattle.eid_store.specs.Stands.{two_slot_stands}
 use Rattle.eid_store.specs.Turn.{SameSlot, IsTurned, WasTurning}
 use Rattle.eid_store.proofs.Fitting.{fits_valid, fits_total, commit_cut, commit_done, commit_fits, Prepared, prepared}
+use Rattle.eid_store.proofs.TwoSlotLaws.{two_slot_commit}
 use Rattle.eid_store.proofs.Turning.{at_err}
 use Rattle.eid_store.proofs.two_slot.TwoSlotDurable.commit.Goals as goal
 
@@ -78,3 +79,19 @@ returns-clause-fits g c =
     c.files_size-size.ensures c.change_of-change_at.ensures.place c.change_of-change_at.ensures.bytes) c.turn.ensures.same c.turn.ensures.layout
     c.advance.new.kept c.other-self.result (g.E.Eeprom.device c.turn.new.cells) c.advance.ensures.fields c.other-self.ensures
     (ap (λ (d : Device). d.has_power) c.in_ok-turn.ensures.cost.steady ∙ c.requires.fits.power)
+
+pub returns-in_err-turn-clause-least : goal.returns-in_err-turn-clause-least
+returns-in_err-turn-clause-least g c =
+    (two_slot_commit c.args.self.now (g.E.Eeprom.device c.args.cells.now) (g.E.Eeprom.cells c.args.cells.now) (effect_view c.args.effect.now) (g.met.E.Eeprom.count c.args.cells.now) c.requires.fits).0
+
+pub returns-in_err-turn-clause-most : goal.returns-in_err-turn-clause-most
+returns-in_err-turn-clause-most g c =
+    (two_slot_commit c.args.self.now (g.E.Eeprom.device c.args.cells.now) (g.E.Eeprom.cells c.args.cells.now) (effect_view c.args.effect.now) (g.met.E.Eeprom.count c.args.cells.now) c.requires.fits).1
+
+pub returns-clause-least : goal.returns-clause-least
+returns-clause-least g c =
+    (two_slot_commit c.args.self.now (g.E.Eeprom.device c.args.cells.now) (g.E.Eeprom.cells c.args.cells.now) (effect_view c.args.effect.now) (g.met.E.Eeprom.count c.args.cells.now) c.requires.fits).0
+
+pub returns-clause-most : goal.returns-clause-most
+returns-clause-most g c =
+    (two_slot_commit c.args.self.now (g.E.Eeprom.device c.args.cells.now) (g.E.Eeprom.cells c.args.cells.now) (effect_view c.args.effect.now) (g.met.E.Eeprom.count c.args.cells.now) c.requires.fits).1
