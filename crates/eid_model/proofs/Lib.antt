@@ -1,4 +1,3 @@
-pub mod Hexadecimal
 pub mod KeyBytes
 pub mod Journals
 pub mod Writes
@@ -11,3 +10,4 @@ pub mod Access
 pub mod Comparisons
 pub mod Identifiers
 pub mod KeyNames
+pub mod LookingBack

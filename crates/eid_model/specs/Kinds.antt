@@ -9,7 +9,8 @@ use Rattle.eid_ca.specs.Selections.{chosen_in, names}
 use Rattle.eid_model.specs.declared.kind.Kind.{Kind}
 use Rattle.eid_model.specs.declared.kind.Kind.TheVariants.{SelectApplication, SelectMasterFile, SelectFile, ReadBinary, UpdateBinary, SelectPace, SelectPublicKey, VerifyCertificate, AnnounceTerminal, GetChallenge, ExternalAuthenticate, SelectChipAuthentication, SelectRestrictedIdentification, EncryptedNonce, MapNonce, PerformKeyAgreement, MutualAuthentication, AuthenticateChip, PerformRestrictedIdentification, VerifyAuxiliary, ChangePin, UnblockPin, ChangeCan, ActivatePin, DeactivatePin, NoProtocol, NoStep}
 
--- the kinds by number, in the order of the table
+-- The kinds by number, in the order of the table. Two numbers are not of a kind: 25 is that of a fragment, and 26 that of a
+-- command that no kind fits.
 abbrev pub number_of : Kind → ℕ
 number_of SelectApplication = 0
 number_of SelectMasterFile = 1
@@ -36,8 +37,8 @@ number_of UnblockPin = 21
 number_of ChangeCan = 22
 number_of ActivatePin = 23
 number_of DeactivatePin = 24
-number_of NoProtocol = 25
-number_of NoStep = 26
+number_of NoProtocol = 28
+number_of NoStep = 27
 
 abbrev pub same_kind : Kind → Kind → Bool
 same_kind a b = number_of a == number_of b

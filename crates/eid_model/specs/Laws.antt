@@ -1,17 +1,18 @@
 -- The words of the laws: what the newest moment was, by looking back over a journal (BSI TR-03110-2, TR-03110-3), and when
 -- a data group, a comparison and an identifier are answered (BSI TR-03110-4).
-use Rattle.std.specs.Prelude.{◌≡◌, ℕ, ◌+◌, Bool, true, false, not, ◌==◌, ◌&&◌, ◌||◌, List, [], ◌∷◌, ◌++◌, Option, Some, None, is_some, option_and_then, if◌then◌else◌}
+use Rattle.std.specs.Prelude.{◌≡◌, ℕ, ◌+◌, Bool, true, false, not, ◌==◌, ◌&&◌, ◌||◌, List, [], ◌∷◌, ◌++◌, drop, Option, Some, None, is_some, option_and_then, if◌then◌else◌}
 use Rattle.std.specs.List.{list_all, list_any}
 use Rattle.eid_apdu.specs.Command.{PlainCommand}
 use Rattle.eid_files.specs.Names.{data_group_of}
 use Rattle.eid_record.specs.Plain.{FullRecord, PlainEffect, Spend, Refill, Unblock, SetPin, SetCan, Active, Advance, Write}
 use Rattle.eid_password.specs.Passwords.{is_pin}
 use Rattle.eid_model.specs.declared.kind.Kind.{Kind}
-use Rattle.eid_model.specs.declared.kind.Kind.TheVariants.{MutualAuthentication, PerformRestrictedIdentification, ReadBinary, VerifyAuxiliary}
+use Rattle.eid_model.specs.declared.kind.Kind.TheVariants.{AuthenticateChip, ExternalAuthenticate, MutualAuthentication, PerformRestrictedIdentification, ReadBinary, VerifyAuxiliary}
 use Rattle.eid_model.specs.Kinds.{same_kind, kind_named}
-use Rattle.eid_model.specs.Moments.{PlainMoment, live}
+use Rattle.eid_model.specs.Ledger.{due_at, first_of, kept, state_of}
+use Rattle.eid_model.specs.Moments.{Event, PoweredOn, PoweredOff, Received, PlainMoment, is_received, live, lost}
 use Rattle.eid_model.specs.Chains.{request_of}
-use Rattle.eid_model.specs.Sessions.{State}
+use Rattle.eid_model.specs.Sessions.{State, kind_of_moment}
 use Rattle.eid_model.specs.Answers.{rules_before}
 use Rattle.eid_model.specs.Legal.{situation_after}
 use Rattle.eid_model.specs.Runs.{answers_of, run, next, Phase, Idle, Chose, SentNonce, HasBase, HasSecret, ChoseKey, phase}
@@ -138,3 +139,43 @@ sectors_asked s = if is_of PerformRestrictedIdentification s.kind then sector_ke
 pub record SelectionHolds (s : State) : Type 0 where
   pub holder : is_by_holder s ≡ true
   pub selected : s.selected ≡ true
+
+-- ---- what is found by looking back alone
+
+-- a power-on found a number
+abbrev pub finds_number : Event → Bool
+finds_number (PoweredOn found) = is_some found
+finds_number PoweredOff = false
+finds_number (Received bytes) = false
+
+-- Looking back, this effect is pending: the power was cut in a command, this is the first of its effects that did not
+-- finish, and no power-on behind it found a number.
+pub record IsPending (opening : FullRecord) (moments : List PlainMoment) (effect : PlainEffect) : Type 0 where
+  pub later : List PlainMoment
+  pub cut : PlainMoment
+  pub before : List PlainMoment
+  pub are : moments ≡ later ++ cut ∷ before
+  pub command : is_received cut.input ≡ true
+  pub lost : lost cut before ≡ true
+  pub unfound : list_any (λ m. finds_number m.input) later ≡ false
+  pub unfinished : first_of (drop cut.finished (due_at (kept opening before) (state_of opening before) cut.plain cut)) ≡ Some effect
+
+-- a kind behind which an earlier chip authentication does not count: the last steps of PACE and of terminal authentication
+abbrev pub ends_proof : Option Kind → Bool
+ends_proof None = false
+ends_proof (Some kind) = same_kind kind MutualAuthentication || same_kind kind ExternalAuthenticate
+
+-- one of the recent moments carried out such a step
+abbrev pub any_ends_proof : (recent before : List PlainMoment) → Bool
+any_ends_proof [] before = false
+any_ends_proof (m ∷ recent) before = ends_proof (kind_of_moment m (recent ++ before)) || any_ends_proof recent before
+
+-- Looking back over a session, the chip is authenticated: a chip authentication was carried out, and behind it neither a PACE
+-- nor a terminal authentication.
+pub record IsChipProven (session : List PlainMoment) : Type 0 where
+  pub later : List PlainMoment
+  pub proof : PlainMoment
+  pub before : List PlainMoment
+  pub are : session ≡ later ++ proof ∷ before
+  pub proves : kind_of_moment proof before ≡ Some AuthenticateChip
+  pub counts : any_ends_proof later (proof ∷ before) ≡ false

@@ -10,8 +10,8 @@ ghost use Rattle.eid_model.specs.Moments.{PlainMoment, live, script, asked, leav
 ghost use Rattle.eid_model.specs.Runs.{run, phase};
 ghost use Rattle.eid_model.specs.Sessions.{fresh};
 ghost use Rattle.eid_model.specs.Legal.{AreLegal};
-ghost use Rattle.eid_model.specs.Ledger.{ledger, kept, state_of};
-ghost use Rattle.eid_model.specs.Laws.{compares_pin, refused_pins, gives_back, goes_on_with_pin, HasCompleted, HasItsRight, HasRight, SelectionHolds, comparison_asked, group_read, sectors_asked, tells_comparison, others_hold, others_hold_but_36, sent_at};
+ghost use Rattle.eid_model.specs.Ledger.{ledger, kept, pending, state_of};
+ghost use Rattle.eid_model.specs.Laws.{compares_pin, refused_pins, gives_back, goes_on_with_pin, HasCompleted, IsPending, IsChipProven, HasItsRight, HasRight, SelectionHolds, comparison_asked, group_read, sectors_asked, tells_comparison, others_hold, others_hold_but_36, sent_at};
 ghost use Rattle.eid_model.specs.declared.comparison.Comparison.{Comparison};
 ghost use Rattle.eid_model.specs.Rules.{RESTRICTED_IDENTIFICATION, is_granted, reading};
 ghost use Rattle.eid_model.specs.Bodies.{NamesKey, authentication_data, data_in, holds_value, key_name_in};
@@ -91,6 +91,20 @@ pub fn law_tries()
 pub fn law_date()
     ensures { (opening : FullRecord) (later before : List PlainMoment)
         → number_of (kept opening before).fields.date ≤ number_of (kept opening (later ++ before)).fields.date }
+{}
+
+/// Looking back tells the effect that is pending: it is the first that did not finish of the last command in which the
+/// power was cut, where no power-on behind that command found a number.
+pub fn law_pending()
+    ensures { (opening : FullRecord) (moments : List PlainMoment) (effect : PlainEffect)
+        → pending opening moments ≡ Some effect ↔ IsPending opening moments effect }
+{}
+
+/// Looking back tells whether the chip is authenticated: exactly where the session carried out a chip authentication,
+/// and behind it neither a PACE nor a terminal authentication.
+pub fn law_chip_proven()
+    ensures { (opening : FullRecord) (moments : List PlainMoment)
+        → (state_of opening moments).chip_proven ≡ true ↔ IsChipProven (live moments) }
 {}
 
 /// The definition of the name in a body of MSE:Set DST, as a function, gives exactly that name.

@@ -17,7 +17,6 @@ use std::marker::Model;
 /// `NoMemory` of an append is want of memory; the text may then have a part of what was to be appended.
 #[derive(Drop)]
 pub struct Text {
-    alloc: Global,
     bytes: Vec<u8>,
 }
 
@@ -35,7 +34,6 @@ impl Text {
         ensures { result ≡ [] }
     {
         Text {
-            alloc,
             bytes: Vec::new(alloc),
         }
     }
@@ -66,20 +64,14 @@ impl Text {
     pub fn put_hex(&mut self, bytes: &[u8]) -> Result<(), NoMemory>
         ensures { OnOk result (self.new ≡ self.old ++ encode_lower bytes.now) }
     {
-        let start = self.bytes.len();
-        // The digits take twice the room of the bytes.
-        self.put(bytes)?;
-        self.put(bytes)?;
-        hex::encode_to_slice(bytes, &mut self.bytes[start..]).unwrap();
-        Ok(())
+        eid_text::put_hex(bytes, &mut self.bytes)
     }
 
     /// Appends a number in decimal.
     pub fn put_decimal(&mut self, number: u32) -> Result<(), NoMemory>
         ensures { OnOk result (self.new ≡ self.old ++ decimal number) }
     {
-        let digits = number.to_string(self.alloc)?;
-        self.put(digits.as_bytes())
+        eid_text::put_decimal(number, &mut self.bytes)
     }
 
     /// Appends a line: its label, and bytes in hexadecimal or `none`.
@@ -161,7 +153,7 @@ impl Text {
     }
 
     /// Appends a reply in hexadecimal.
-    #[tactic(auto, using(crate::proofs::Hexadecimal::encode_parts))]
+    #[tactic(auto, using(eid_text::proofs::Encoding::encode_parts))]
     fn put_reply(&mut self, reply: &Reply) -> Result<(), NoMemory>
         ensures { OnOk result (self.new ≡ self.old ++ encode_lower (spelled (plain_reply reply.now))) }
     {

@@ -16,7 +16,6 @@ use std::alloc::Global;
 /// A text that grows.
 #[derive(Drop)]
 struct Text {
-    alloc: Global,
     bytes: Vec<u8>,
 }
 
@@ -43,16 +42,20 @@ impl Text {
     fn put_number(&mut self, word: &str, number: u32) -> Result<(), NoMemory>
         ensures { OnOk result (self.new.bytes.items ≡ self.old.bytes.items ++ line word.now (decimal number)) }
     {
-        let digits = number.to_string(self.alloc)?;
-        self.put_line(word, digits.as_bytes())
+        self.put(word.as_bytes())?;
+        self.put(b" ")?;
+        eid_text::put_decimal(number, &mut self.bytes)?;
+        self.put(b"\n")
     }
 
     /// Appends a line whose value is bytes in hexadecimal.
     fn put_hex(&mut self, word: &str, bytes: &[u8]) -> Result<(), NoMemory>
         ensures { OnOk result (self.new.bytes.items ≡ self.old.bytes.items ++ line word.now (encode_lower bytes.now)) }
     {
-        let digits = hex::encode(self.alloc, bytes)?;
-        self.put_line(word, digits.as_bytes())
+        self.put(word.as_bytes())?;
+        self.put(b" ")?;
+        eid_text::put_hex(bytes, &mut self.bytes)?;
+        self.put(b"\n")
     }
 
     /// Appends the line that says whether the PIN may be used.
@@ -149,7 +152,6 @@ pub fn show_text(alloc: Global, kept: &Record, layout: u8) -> Result<Vec<u8>, No
     ensures { IfOk result (λ text. text.items ≡ shown layout (record_view kept.now)) }
 {
     let mut out = Text {
-        alloc,
         bytes: Vec::new(alloc),
     };
     out.put_counters(kept, layout)?;

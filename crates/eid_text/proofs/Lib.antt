@@ -1,4 +1,5 @@
 pub mod Hexadecimal
+pub mod Encoding
 pub mod Decoding
 pub mod Readings
 pub mod Turns

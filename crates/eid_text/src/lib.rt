@@ -2,5 +2,7 @@
 #![tactic(auto)]
 
 mod digits;
+mod writing;
 
 pub use digits::{are_digits, decode_hex};
+pub use writing::{put_decimal, put_hex};
