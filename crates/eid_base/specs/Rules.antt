@@ -1,5 +1,6 @@
 -- The rules of a command, by their numbers, and what each asks. The numbers are this project's own.
-use Rattle.std.specs.Prelude.{ℕ}
+use Rattle.std.specs.Prelude.{ℕ, Option, Some, None, Result, Ok, Err}
+use Rattle.eid_base.specs.declared.codes.Rule.{Rule}
 
 -- the bytes are a command, and its body is not too long
 abbrev pub command_rule : ℕ
@@ -196,3 +197,8 @@ number_rule = 54
 -- the token is right
 abbrev pub token_rule : ℕ
 token_rule = 55
+
+-- the number of the rule that refuses, if one does
+abbrev pub refused_by : Result Unit Rule → Option ℕ
+refused_by (Ok passed) = None
+refused_by (Err rule) = Some rule.0

@@ -55,7 +55,8 @@ impl MemoryEeprom {
     // Leaves in the range of `bytes` what a write cut with that tear leaves there.
     fn change(&mut self, place: u32, tear: Tear, bytes: &[u8])
         requires { place + length bytes.now ≤ 65536 }
-        ensures cells { memory_cells self.new ≡ patched place (torn tear (slice_range (memory_cells self.old) place (place + length bytes.now)) bytes.now) (memory_cells self.old) }
+        ensures cells { memory_cells self.new
+            ≡ patched place (torn tear (slice_range (memory_cells self.old) place (place + length bytes.now)) bytes.now) (memory_cells self.old) }
         ensures device { memory_device self.new ≡ memory_device self.old }
         ensures tear { planned_tear self.new ≡ planned_tear self.old }
     {
@@ -97,7 +98,9 @@ impl Eeprom for MemoryEeprom {
         ensures steady { OnOk result (memory_device self.new ≡ written_once (memory_device self.old)) }
         ensures cut { OnErr result (WasCut (memory_device self.old) (memory_device self.new)) }
         ensures as_planned { IsErr result ↔ ((memory_device self.old).planned ≡ 1) }
-        ensures torn { OnErr result (memory_cells self.new ≡ patched place (torn (planned_tear self.old) (slice_range (memory_cells self.old) place (place + length bytes.now)) bytes.now) (memory_cells self.old)) }
+        ensures torn { OnErr result (memory_cells self.new
+            ≡ patched place (torn (planned_tear self.old) (slice_range (memory_cells self.old) place (place + length bytes.now)) bytes.now)
+            (memory_cells self.old)) }
         ensures tear { planned_tear self.new ≡ planned_tear self.old }
     {
         if self.planned == 1 {

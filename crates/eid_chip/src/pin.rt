@@ -8,7 +8,7 @@ ghost use Rattle.eid_copro.specs.Seen.{CoproSeen};
 ghost use Rattle.eid_copro.specs.declared.ask.Ask.{Ask};
 ghost use Rattle.eid_record.specs.Effect.{CanApply};
 ghost use Rattle.eid_record.specs.EffectView.{effect_view};
-ghost use Rattle.eid_record.specs.Reading.{is_ascii_digit};
+ghost use Rattle.std.specs.Char.{is_ascii_digit};
 ghost use Rattle.eid_record.specs.Valid.{AreDigits};
 ghost use Rattle.eid_sm.specs.Keys.{ChannelState};
 ghost use Rattle.eid_store.specs.Store as stored;

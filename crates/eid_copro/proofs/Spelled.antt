@@ -13,9 +13,10 @@ use Rattle.std.proofs.lemmas.List.Sums.{split_at_first, passes_at_first}
 use Rattle.hex.specs.Hex.{decode_sized, hex_digit_value}
 use Rattle.hex.specs.declared.error.FromHexError.{FromHexError}
 use Rattle.eid_text.specs.Hexadecimal.{IsDigit, IsHex}
+use Rattle.eid_text.specs.Lines.{is_space}
 use Rattle.eid_text.proofs.Hexadecimal.{digit_reads, hex_length, decodes_sized, decoded_sized}
 use Rattle.eid_text.proofs.Readings.{Told, Agrees}
-use Rattle.eid_copro.specs.Lines.{bytes_of, is_space, pair_in, verdict_in, or_none, answer_in, line_answer, says}
+use Rattle.eid_copro.specs.Lines.{bytes_of, pair_in, verdict_in, or_none, answer_in, line_answer, says}
 use Rattle.eid_copro.specs.Grammar.{IsSized, SpellsAnswer, IsEmpty}
 use Rattle.eid_copro.specs.declared.ask.Answer.{Answer}
 use Rattle.eid_copro.specs.declared.ask.Answer.TheVariants as answers

@@ -7,16 +7,13 @@ use Rattle.std.specs.List.{before_first, after_first}
 use Rattle.std.specs.Result.{result_ok}
 use Rattle.std.specs.Str.{bytes_eq}
 use Rattle.hex.specs.Hex.{decode_sized}
-use Rattle.eid_text.specs.Lines.{said_in}
+use Rattle.eid_text.specs.Lines.{is_space, said_in}
 use Rattle.eid_copro.specs.declared.ask.Answer.{Answer}
 use Rattle.eid_copro.specs.declared.ask.Answer.TheVariants as answers
 
 -- so many bytes in hexadecimal
 unfoldable pub bytes_of : ℕ → List ℕ → Option (List ℕ)
 bytes_of size text = result_ok (decode_sized text size)
-
-abbrev pub is_space : ℕ → Bool
-is_space byte = byte == 32
 
 -- the secret, and the public point behind the next space
 unfoldable pub pair_in : List ℕ → Option Answer

@@ -2,9 +2,9 @@
 ghost use Rattle.std.specs.Prelude.{◌≡◌, ◌≤◌, ◌++◌, length, Ok, IfOk, IfErr, OnOk, option_map};
 ghost use Rattle.std.specs.List.{after_first, before_first, position};
 ghost use Rattle.std.specs.Option.{option_to_list};
-ghost use Rattle.eid_text.specs.Lines.{text_limit, text_says};
+ghost use Rattle.eid_text.specs.Lines.{is_space, text_limit, text_says};
 ghost use Rattle.eid_copro.specs.Refusal.{Refuses};
-ghost use Rattle.eid_copro.specs.Lines.{answer_in, answers_of, bytes_of, is_space, line_answer, or_none, pair_in, says, verdict_in};
+ghost use Rattle.eid_copro.specs.Lines.{answer_in, answers_of, bytes_of, line_answer, or_none, pair_in, says, verdict_in};
 
 use crate::ask::Answer;
 use eid_base::NoMemory;

@@ -158,7 +158,7 @@ pub fn write_body<const N: usize>(
     ensures written { OnOk result (out.new.items ≡ out.old.items ++ written_body (body_view body.now)) }
     ensures full { IsErr result ↔ (N < array_vec_len out.old + length (written_body (body_view body.now))) }
     ensures same { OnErr result (out.new ≡ out.old) }
-    ensures size { length (written_body (body_view body.now)) ≤ MAX_BODY }
+    ensures size { length (written_body (body_view body.now)) ≤ 249 }
     ensures body { IsBody (body_view body.now) }
 {
     put(out, tags::BODY, &body_value(body))
@@ -178,7 +178,7 @@ pub fn write_certificate<const N: usize>(
     ensures written { OnOk result (out.new.items ≡ out.old.items ++ written_certificate (body_view body.now) signature.now) }
     ensures full { IsErr result ↔ (N < array_vec_len out.old + length (written_certificate (body_view body.now) signature.now)) }
     ensures same { OnErr result (out.new ≡ out.old) }
-    ensures size { length (written_certificate (body_view body.now) signature.now) ≤ MAX_CERTIFICATE }
+    ensures size { length (written_certificate (body_view body.now) signature.now) ≤ 316 }
     ensures reads { IsCertificate (written_certificate (body_view body.now) signature.now) (certificate_with (body_view body.now) signature.now) }
 {
     let mut whole = ArrayVec::<u8, MAX_CERTIFICATE>::new();

@@ -12,9 +12,12 @@ card_security = 1
 abbrev pub data_group : ℕ → ℕ
 data_group n = n + 1
 
--- the data groups are those from 1 to 21
+-- the number of the last data group; the first one is 1
+abbrev pub last_data_group : ℕ
+last_data_group = 21
+
 abbrev pub is_data_group : ℕ → Bool
-is_data_group n = nat_le 1 n && nat_le n 21
+is_data_group n = nat_le 1 n && nat_le n last_data_group
 
 -- the file of a short identifier: 1C, 1D, and n for data group n
 abbrev pub file_of_short : ℕ → Option ℕ

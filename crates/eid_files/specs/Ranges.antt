@@ -36,8 +36,3 @@ write_refusal size offset count =
 abbrev pub range_view : Result (ℕ × Status) Rule → Result (ℕ × ℕ) ℕ
 range_view (Ok range) = Ok (range.0, range.1.0)
 range_view (Err rule) = Err rule.0
-
--- the number of the rule that refuses, if one does
-abbrev pub refused_by : Result Unit Rule → Option ℕ
-refused_by (Ok written) = None
-refused_by (Err rule) = Some rule.0

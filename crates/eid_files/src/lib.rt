@@ -5,5 +5,5 @@
 mod names;
 mod ranges;
 
-pub use names::{data_group_of, file_of_id, file_of_short, law_data_groups};
+pub use names::{LAST_DATA_GROUP, data_group_of, file_of_id, file_of_short, law_data_groups};
 pub use ranges::{read_range, write_range};

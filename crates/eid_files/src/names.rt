@@ -8,8 +8,8 @@ const CARD_ACCESS: FileNo = FileNo(0);
 /// EF.CardSecurity.
 const CARD_SECURITY: FileNo = FileNo(1);
 
-/// The number of the last data group. Their number is this project's own.
-const LAST_DATA_GROUP: u8 = 21;
+/// The number of the last data group; the first one is 1. Their number is this project's own.
+pub const LAST_DATA_GROUP: u8 = 21;
 
 /// The short identifier of EF.CardAccess (BSI TR-03110-3).
 const SHORT_CARD_ACCESS: u8 = 0x1C;

@@ -1,5 +1,6 @@
 ghost use Rattle.std.specs.Prelude.{◌≡◌};
-ghost use Rattle.eid_files.specs.Ranges.{range_view, read_given, refused_by, write_refusal};
+ghost use Rattle.eid_base.specs.Rules.{refused_by};
+ghost use Rattle.eid_files.specs.Ranges.{range_view, read_given, write_refusal};
 
 use eid_base::rules::{BEYOND_END, OFFSET};
 use eid_base::{Rule, Status};

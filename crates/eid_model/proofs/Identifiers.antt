@@ -24,37 +24,17 @@ use Rattle.eid_model.specs.Sessions.{State, accepts, kind_of_moment}
 use Rattle.eid_model.proofs.Access.{all_kept, none_failed, right_of, rule_is, split}
 use Rattle.eid_model.proofs.Comparisons.{behind, weaker}
 use Rattle.eid_model.proofs.Laws.{IsAnswered, answered_for, at, kind_so, rule_so}
+use Rattle.eid_model.proofs.Steps.{in_table_of, never_found, no_fragment, no_piece}
 
 -- ---- the step comes behind its selection alone
 
-never_more : (row : KindRow) (found : Bool) (rows : List KindRow) (next : Option Kind) (c : PlainCommand) → (has_parameters c row && row.comes next c.body) ≡ found
-    → not (same_kind row.kind PerformRestrictedIdentification && row.comes next c.body) ≡ true
-    → (option_map (λ row. row.kind) (find (λ row. has_parameters c row && row.comes next c.body) rows) ≡ Some PerformRestrictedIdentification → ⊥)
-    → option_map (λ row. row.kind) (if found then Some row else find (λ row. has_parameters c row && row.comes next c.body) rows) ≡ Some PerformRestrictedIdentification → ⊥
-never_more row true rows next c is other later e =
-    let kind : row.kind ≡ PerformRestrictedIdentification = cc in
-    let same : same_kind row.kind PerformRestrictedIdentification ≡ true = ap (λ (k : Kind). same_kind k PerformRestrictedIdentification) kind in
-    let comes : row.comes next c.body ≡ true = (and_parts (has_parameters c row) (row.comes next c.body) is).1 in
-    absurd (let no : not (same_kind row.kind PerformRestrictedIdentification && row.comes next c.body) ≡ false = rw (same, comes) refl in cc)
-never_more row false rows next c is other later e = later e
-
-never_found : (rows : List KindRow) (next : Option Kind) (c : PlainCommand) → list_all (λ row. not (same_kind row.kind PerformRestrictedIdentification && row.comes next c.body)) rows ≡ true
-    → option_map (λ row. row.kind) (find (λ row. has_parameters c row && row.comes next c.body) rows) ≡ Some PerformRestrictedIdentification → ⊥
-never_found [] next c others e = cc
-never_found (row ∷ rows) next c others e =
-    let both = and_parts (not (same_kind row.kind PerformRestrictedIdentification && row.comes next c.body)) (list_all (λ row. not (same_kind row.kind PerformRestrictedIdentification && row.comes next c.body)) rows) others in
-    never_more row (has_parameters c row && row.comes next c.body) rows next c refl both.0 (never_found rows next c both.1) e
-
 in_table : (next : Option Kind) (c : PlainCommand) → kind_in_table next c ≡ Some PerformRestrictedIdentification → next ≡ Some PerformRestrictedIdentification
-in_table None c e = absurd (never_found kinds None c refl e)
+in_table None c e = absurd (never_found PerformRestrictedIdentification kinds None c refl e)
 in_table (Some PerformRestrictedIdentification) c e = refl
-in_table (Some kind) c e = absurd (never_found kinds (Some kind) c refl e)
+in_table (Some kind) c e = absurd (never_found PerformRestrictedIdentification kinds (Some kind) c refl e)
 
 in_turn : (next : Option Kind) (c : PlainCommand) → kind_named next c ≡ Some PerformRestrictedIdentification → next ≡ Some PerformRestrictedIdentification
-in_turn next c e = by (is_fragment c) refl e where
-  by : (b : Bool) → is_fragment c ≡ b → (if b then None else kind_in_table next c) ≡ Some PerformRestrictedIdentification → next ≡ Some PerformRestrictedIdentification
-  by true is so = absurd (cc)
-  by false is so = in_table next c so
+in_turn next c e = in_table_of PerformRestrictedIdentification next c (in_table next c) e
 
 -- a run in which it is next began with the newest request, its selection
 begun_by : (done : Option Kind) (whole : Option PlainCommand) (given : List Answer) (steps : List Step) → next (continued done whole given steps) ≡ Some PerformRestrictedIdentification
@@ -64,29 +44,8 @@ begun_by (Some kind) None given steps e = absurd (cc)
 begun_by (Some SelectRestrictedIdentification) (Some c) given steps e = refl
 begun_by (Some kind) (Some c) given steps e = absurd (cc)
 
--- it has no fragments
-none_both : (b : Bool) → (b && false) ≡ false
-none_both true = refl
-none_both false = refl
-
 no_form : (c : PlainCommand) → is_fragment c ≡ true → has_form_of PerformRestrictedIdentification c ≡ false
-no_form c piece = by (0x86 == c.ins) refl where
-  by : (b : Bool) → (0x86 == c.ins) ≡ b → has_form_of PerformRestrictedIdentification c ≡ false
-  by true is =
-      let ins : 0x86 ≡ c.ins = eqb-true 0x86 c.ins is in
-      absurd (let none : is_fragment c ≡ false = rw (← ins) (none_both (c.cla == 0x10)) in cc)
-  by false is = rw is refl
-
-of_fragment : (c : PlainCommand) (b : Bool) → is_fragment c ≡ b → is_piece_of_next (Some PerformRestrictedIdentification) (if b then Some c else None) ≡ false
-of_fragment c true is = no_form c is
-of_fragment c false is = refl
-
-no_piece : (m : PlainMoment) → is_piece_of_next (Some PerformRestrictedIdentification) (fragment m) ≡ false
-no_piece m = by (succeeded m) m.plain where
-  by : (b : Bool) (o : Option PlainCommand) → is_piece_of_next (Some PerformRestrictedIdentification) (if b then option_and_then as_fragment o else None) ≡ false
-  by false o = refl
-  by true None = refl
-  by true (Some c) = of_fragment c (is_fragment c) refl
+no_form c = no_fragment PerformRestrictedIdentification c (λ other. rw other refl)
 
 -- ---- what its selection needs
 
@@ -168,7 +127,7 @@ stands opening (m ∷ before) legal e = by (ends_session m) refl where
   selected : (piece : Bool) → is_piece_of_next (next (run (live before))) (fragment m) ≡ piece
       → next (if piece then run (live before) else continued (kind_done (next (run (live before))) m (live before)) (request_of m (live before)) (answers_of m.asks) (run (live before))) ≡ Some PerformRestrictedIdentification
       → kind_of_moment m (live before) ≡ Some SelectRestrictedIdentification
-  selected true is so = absurd (let none : is_piece_of_next (next (run (live before))) (fragment m) ≡ false = rw so (no_piece m) in cc)
+  selected true is so = absurd (let none : is_piece_of_next (next (run (live before))) (fragment m) ≡ false = rw so (no_piece PerformRestrictedIdentification m no_form) in cc)
   selected false is so = begun_by (kind_done (next (run (live before))) m (live before)) (request_of m (live before)) (answers_of m.asks) (run (live before)) so
 
   by : (b : Bool) → ends_session m ≡ b → MayIdentify (state_of opening (m ∷ before))

@@ -8,6 +8,8 @@ pub mod Compared
 pub mod Laws
 pub mod Access
 pub mod Comparisons
+pub mod Steps
 pub mod Identifiers
 pub mod KeyNames
 pub mod LookingBack
+pub mod ChipProofs

@@ -12,7 +12,7 @@ use Rattle.eid_model.specs.Kinds.{same_kind, kind_named}
 use Rattle.eid_model.specs.Ledger.{due_at, first_of, kept, state_of}
 use Rattle.eid_model.specs.Moments.{Event, PoweredOn, PoweredOff, Received, PlainMoment, is_received, live, lost}
 use Rattle.eid_model.specs.Chains.{request_of}
-use Rattle.eid_model.specs.Sessions.{State, kind_of_moment}
+use Rattle.eid_model.specs.Sessions.{State, kind_of_moment, pace_completed}
 use Rattle.eid_model.specs.Answers.{rules_before}
 use Rattle.eid_model.specs.Legal.{situation_after}
 use Rattle.eid_model.specs.Runs.{answers_of, run, next, Phase, Idle, Chose, SentNonce, HasBase, HasSecret, ChoseKey, phase}
@@ -179,3 +179,17 @@ pub record IsChipProven (session : List PlainMoment) : Type 0 where
   pub are : session ≡ later ++ proof ∷ before
   pub proves : kind_of_moment proof before ≡ Some AuthenticateChip
   pub counts : any_ends_proof later (proof ∷ before) ≡ false
+
+-- one of the recent moments completed a PACE
+abbrev pub any_pace : (recent before : List PlainMoment) → Bool
+any_pace [] before = false
+any_pace (m ∷ recent) before = is_some (pace_completed m (recent ++ before)) || any_pace recent before
+
+-- Looking back over a session, a terminal is known: a terminal authentication was carried out, and behind it no PACE.
+pub record IsTerminalKnown (session : List PlainMoment) : Type 0 where
+  pub later : List PlainMoment
+  pub proof : PlainMoment
+  pub before : List PlainMoment
+  pub are : session ≡ later ++ proof ∷ before
+  pub knows : kind_of_moment proof before ≡ Some ExternalAuthenticate
+  pub counts : any_pace later (proof ∷ before) ≡ false

@@ -2,6 +2,7 @@
 -- kind and does not hold. The numbers and their order are this project's own; the statuses are those
 -- of ISO/IEC 7816-4.
 use Rattle.std.specs.Prelude.{ℕ, ◌+◌, ◌*◌, ◌-◌, Bool, true, false, ◌==◌, ◌&&◌, ◌||◌, not, nat_le, nat_lt, List, [], ◌∷◌, length, Option, Some, None, is_some, unwrap_or, slice_index_or, if◌then◌else◌}
+use Rattle.std.specs.Char.{is_ascii_digit}
 use Rattle.std.specs.List.{list_all, list_any}
 use Rattle.std.specs.Str.{bytes_eq}
 use Rattle.eid_base.specs.Rules.{command_rule, objects_rule, protection_rule, class_rule, instruction_rule, parameters_rule, unbroken_rule, length_rule, step_rule, form_rule, password_rule, current_rule, named_rule, writable_rule, active_rule, try_rule, resumed_rule, pace_rule, template_rule, unknown_rule, key_rule, chain_rule, name_rule, terminal_rule, unproven_rule, proven_rule, management_rule, unblocking_rule, holder_rule, application_rule, right_rule, sent_rule, reference_rule, comparison_rule, present_rule, offset_rule, end_rule, sector_rule, other_key_rule, issuer_rule, role_rule, link_rule, expiry_rule, fault_rule, same_point_rule, no_point_rule, signature_rule, number_rule, token_rule}
@@ -22,13 +23,12 @@ use Rattle.eid_bits.specs.declared.identifier.Known.TheVariants.{RiSha256}
 use Rattle.eid_ca.specs.Selections.{chosen_in, names}
 use Rattle.eid_ri.specs.SectorKeysIn.{sector_keys_in}
 use Rattle.eid_trust.specs.Trust.{signer_of, is_issued_by, may_sign, is_link, is_of_current, is_in_date, advance}
-use Rattle.eid_record.specs.Reading.{is_ascii_digit}
 use Rattle.eid_record.specs.declared.fields.Password.{Password}
 use Rattle.eid_password.specs.Passwords.{is_can, is_pin, is_puk, has_try, is_resumed}
 use Rattle.eid_model.specs.declared.kind.Kind.{Kind}
 use Rattle.eid_model.specs.declared.kind.Kind.TheVariants.{SelectApplication, SelectMasterFile, SelectFile, ReadBinary, UpdateBinary, SelectPace, SelectPublicKey, VerifyCertificate, AnnounceTerminal, GetChallenge, ExternalAuthenticate, SelectChipAuthentication, SelectRestrictedIdentification, EncryptedNonce, MapNonce, PerformKeyAgreement, MutualAuthentication, AuthenticateChip, PerformRestrictedIdentification, VerifyAuxiliary, ChangePin, UnblockPin, ChangeCan, ActivatePin, DeactivatePin, NoProtocol, NoStep}
 use Rattle.eid_model.specs.Kinds.{same_kind, kinds, has_instruction, has_parameters, is_by_short, application_id}
-use Rattle.eid_files.specs.Names.{card_access, card_security, file_of_id, file_of_short}
+use Rattle.eid_files.specs.Names.{card_access, card_security, file_of_id, file_of_short, last_data_group}
 use Rattle.eid_copro.specs.declared.ask.Answer.{Answer}
 use Rattle.eid_copro.specs.declared.ask.Answer.TheVariants as answers
 use Rattle.eid_copro.specs.Asking.{is_fault}
@@ -607,8 +607,8 @@ kind_rules =
     record { number = current_rule; status = fixed 0x6986; kinds = ReadBinary ∷ UpdateBinary ∷ []; holds = λ s. is_by_short s.command || is_some s.state.current } ∷
     -- the identifier is the application's, or names a file
     record { number = named_rule; status = fixed 0x6A82; kinds = SelectApplication ∷ SelectFile ∷ ReadBinary ∷ UpdateBinary ∷ []; holds = λ s. is_named s.kind s } ∷
-    -- the file is a data group that may be written: 17 to 21
-    record { number = writable_rule; status = fixed 0x6982; kinds = UpdateBinary ∷ []; holds = λ s. with_file (λ f. is_between 17 21 (group_of f)) (file_meant s) } ∷
+    -- the file is a data group that may be written: one from 17 on
+    record { number = writable_rule; status = fixed 0x6982; kinds = UpdateBinary ∷ []; holds = λ s. with_file (λ f. is_between 17 last_data_group (group_of f)) (file_meant s) } ∷
     -- PACE begins with the PIN: it is active
     record { number = active_rule; status = fixed 0x6984; kinds = EncryptedNonce ∷ []; holds = λ s. not (starts_pin s.state.phase) || s.kept.fields.active } ∷
     -- a try is left

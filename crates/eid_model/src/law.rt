@@ -11,7 +11,7 @@ ghost use Rattle.eid_model.specs.Runs.{run, phase};
 ghost use Rattle.eid_model.specs.Sessions.{fresh};
 ghost use Rattle.eid_model.specs.Legal.{AreLegal};
 ghost use Rattle.eid_model.specs.Ledger.{ledger, kept, pending, state_of};
-ghost use Rattle.eid_model.specs.Laws.{compares_pin, refused_pins, gives_back, goes_on_with_pin, HasCompleted, IsPending, IsChipProven, HasItsRight, HasRight, SelectionHolds, comparison_asked, group_read, sectors_asked, tells_comparison, others_hold, others_hold_but_36, sent_at};
+ghost use Rattle.eid_model.specs.Laws.{compares_pin, refused_pins, gives_back, goes_on_with_pin, HasCompleted, IsPending, IsChipProven, IsTerminalKnown, HasItsRight, HasRight, SelectionHolds, comparison_asked, group_read, sectors_asked, tells_comparison, others_hold, others_hold_but_36, sent_at};
 ghost use Rattle.eid_model.specs.declared.comparison.Comparison.{Comparison};
 ghost use Rattle.eid_model.specs.Rules.{RESTRICTED_IDENTIFICATION, is_granted, reading};
 ghost use Rattle.eid_model.specs.Bodies.{NamesKey, authentication_data, data_in, holds_value, key_name_in};
@@ -101,10 +101,13 @@ pub fn law_pending()
 {}
 
 /// Looking back tells whether the chip is authenticated: exactly where the session carried out a chip authentication,
-/// and behind it neither a PACE nor a terminal authentication.
+/// and behind it neither a PACE nor a terminal authentication. In a legal journal it has carried out a terminal
+/// authentication then, too, and behind that no PACE.
 pub fn law_chip_proven()
-    ensures { (opening : FullRecord) (moments : List PlainMoment)
+    ensures chip { (opening : FullRecord) (moments : List PlainMoment)
         → (state_of opening moments).chip_proven ≡ true ↔ IsChipProven (live moments) }
+    ensures terminal { (opening : FullRecord) (moments : List PlainMoment) → AreLegal opening moments
+        → (state_of opening moments).chip_proven ≡ true → IsTerminalKnown (live moments) }
 {}
 
 /// The definition of the name in a body of MSE:Set DST, as a function, gives exactly that name.

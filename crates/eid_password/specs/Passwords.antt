@@ -56,11 +56,6 @@ start_refusal kept Can by_can = None
 start_refusal kept Pin by_can = pin_refusal kept by_can
 start_refusal kept Puk by_can = None
 
--- what a start is refused by
-abbrev pub refused_by : Result Unit Rule → Option ℕ
-refused_by (Ok started) = None
-refused_by (Err rule) = Some rule.0
-
 -- the status of the selection of a password (BSI TR-03110-3): that the PIN is deactivated, how many tries of it are left
 -- where one was lost, and else nothing
 abbrev pub select_status : PlainRecord → Password → ℕ

@@ -1,7 +1,8 @@
 ghost use Rattle.std.specs.Prelude.{◌≡◌};
+ghost use Rattle.eid_base.specs.Rules.{refused_by};
 ghost use Rattle.eid_record.specs.View.{record_view};
 ghost use Rattle.eid_password.specs.Passwords as passwords;
-ghost use Rattle.eid_password.specs.Passwords.{digits_of, refused_by, start_refusal};
+ghost use Rattle.eid_password.specs.Passwords.{digits_of, start_refusal};
 
 use eid_base::rules::{BLOCKED, INACTIVE, SUSPENDED};
 use eid_base::{Rule, Status};

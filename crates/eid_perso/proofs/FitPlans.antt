@@ -13,7 +13,7 @@ use Rattle.eid_cvc.specs.CertificateIn.{certificate_in}
 use Rattle.eid_terminal.specs.Plans.{IsSendable, AreSendable, CanBeAsked, CanAllBeAsked}
 use Rattle.eid_terminal.specs.declared.plan.Request.{Request}
 use Rattle.eid_terminal.specs.declared.plan.Request.TheVariants.{File, Age, Validity, Community, Ri}
-use Rattle.eid_perso.specs.Forms.{certificate, if_certificate, each_item, file, list_of, no_longer, request_word, request_of_word}
+use Rattle.eid_perso.specs.Forms.{certificate, if_certificate, each_item, file, list_of, request_word, request_of_word}
 use Rattle.eid_perso.specs.Keys.{given, given_or, optional, or_refused, required}
 use Rattle.eid_perso.specs.Names.{file_names, group_named}
 use Rattle.eid_perso.specs.PlanKeys.{certificates_key, requests_key}
@@ -36,7 +36,7 @@ if-all P false x true_of = tt
 list_of-all : {A : Type 0} (P : A → Type 0) (Q : List A → Type 0) (most : ℕ) (form : Data → Option A) → Q [] → ((x : A) (xs : List A) → P x → Q xs → Q (x ∷ xs))
     → ((d : Data) → IfSome (form d) P) → (d : Data) → IfSome (list_of most form d) Q
 list_of-all P Q most form none joined one d =
-    and_then-such Q Q (no_longer most) (option_and_then (each_item form) (as_array d)) (and_then-all Q (each_item form) (as_array d) (each_item-all P Q form none joined one))
+    and_then-such Q Q (at_most most) (option_and_then (each_item form) (as_array d)) (and_then-all Q (each_item form) (as_array d) (each_item-all P Q form none joined one))
     (λ xs all. if-all Q (nat_le (length xs) most) xs (λ short. all))
 
 -- what was not refused

@@ -5,7 +5,8 @@ use Rattle.std.proofs.lemmas.Bool.Decides.{nat_tests}
 use Rattle.toml.specs.Data.{Data, Items, no_items, item}
 use Rattle.toml.specs.View.{items_view, view}
 use Rattle.toml.specs.declared.value.Value.{Value}
-use Rattle.eid_perso.specs.Forms.{each_item, no_longer}
+use Rattle.eid_text.specs.Hexadecimal.{at_most}
+use Rattle.eid_perso.specs.Forms.{each_item}
 
 -- of a first item and the others
 first_and_others : {A : Type 0} (P : A → Type 0) (Q R : List A → Type 0) → ((x : A) (xs : List A) → P x → Q xs → R (x ∷ xs)) → (first : Option A) (later : Option (List A))
@@ -29,23 +30,23 @@ each_item-length form [] = refl
 each_item-length form (v ∷ vs) =
     first_and_others (λ x. Unit {0}) (λ xs. length xs ≡ length vs) (λ xs. length xs ≡ suc (length vs)) (λ x xs one others. ap suc others) (form (view v)) (each_item form (items_view vs)) (whatever (form (view v))) (each_item-length form vs)
 
-no_longer-none : {A : Type 0} (most : ℕ) (list : List A) → most < length list → no_longer most list ≡ None
-no_longer-none most list long = grind (arith, nat_tests)
+at_most-none : {A : Type 0} (most : ℕ) (list : List A) → most < length list → at_most most list ≡ None
+at_most-none most list long = grind (arith, nat_tests)
 
-no_longer-some : {A : Type 0} (most : ℕ) (list : List A) → length list ≤ most → no_longer most list ≡ Some list
-no_longer-some most list short = grind (arith, nat_tests)
+at_most-some : {A : Type 0} (most : ℕ) (list : List A) → length list ≤ most → at_most most list ≡ Some list
+at_most-some most list short = grind (arith, nat_tests)
 
-none_left : {A : Type 0} (most n : ℕ) (list : Option (List A)) → most < n → IfSome list (λ xs. length xs ≡ n) → option_and_then (no_longer most) list ≡ None
+none_left : {A : Type 0} (most n : ℕ) (list : Option (List A)) → most < n → IfSome list (λ xs. length xs ≡ n) → option_and_then (at_most most) list ≡ None
 none_left most n None more long = refl
-none_left most n (Some xs) more long = no_longer-none most xs (omega (arith, more, long))
+none_left most n (Some xs) more long = at_most-none most xs (omega (arith, more, long))
 
-all_left : {A : Type 0} (most n : ℕ) (list : Option (List A)) → n ≤ most → IfSome list (λ xs. length xs ≡ n) → option_and_then (no_longer most) list ≡ list
+all_left : {A : Type 0} (most n : ℕ) (list : Option (List A)) → n ≤ most → IfSome list (λ xs. length xs ≡ n) → option_and_then (at_most most) list ≡ list
 all_left most n None few long = refl
-all_left most n (Some xs) few long = no_longer-some most xs (omega (arith, few, long))
+all_left most n (Some xs) few long = at_most-some most xs (omega (arith, few, long))
 
 -- more items than there may be
-pub too_many : {A : Type 0} (most : ℕ) (form : Data → Option A) (vs : List Value) → most < length vs → option_and_then (no_longer most) (each_item form (items_view vs)) ≡ None
+pub too_many : {A : Type 0} (most : ℕ) (form : Data → Option A) (vs : List Value) → most < length vs → option_and_then (at_most most) (each_item form (items_view vs)) ≡ None
 too_many most form vs more = none_left most (length vs) (each_item form (items_view vs)) more (each_item-length form vs)
 
-pub few_enough : {A : Type 0} (most : ℕ) (form : Data → Option A) (vs : List Value) → length vs ≤ most → option_and_then (no_longer most) (each_item form (items_view vs)) ≡ each_item form (items_view vs)
+pub few_enough : {A : Type 0} (most : ℕ) (form : Data → Option A) (vs : List Value) → length vs ≤ most → option_and_then (at_most most) (each_item form (items_view vs)) ≡ each_item form (items_view vs)
 few_enough most form vs few = all_left most (length vs) (each_item form (items_view vs)) few (each_item-length form vs)

@@ -1,6 +1,7 @@
 -- What a configuration says.
 use Rattle.std.specs.Prelude.{◌≡◌, ℕ, ◌+◌, ◌≤◌, List, length, Option, IsTrue}
 use Rattle.eid_record.specs.Files.{total, full_of}
+use Rattle.eid_record.specs.Layout.{file_count}
 use Rattle.eid_record.specs.Plain.{PlainRecord, FullRecord}
 use Rattle.eid_record.specs.Reading.{size}
 use Rattle.eid_record.specs.Valid.{IsValid, lengths_fit}
@@ -35,6 +36,6 @@ pub record IsFileLength (before now : List ℕ) (n : Option ℕ) : Type 0 where
 
 -- lengths that a record may have, and as many bytes
 pub record AreFiles (lengths : List (Option ℕ)) (bytes : List ℕ) : Type 0 where
-  pub count : length lengths ≡ 23
+  pub count : length lengths ≡ file_count
   pub fit : IsTrue (lengths_fit 0 lengths)
   pub total : length bytes ≡ total lengths

@@ -9,7 +9,7 @@ use Rattle.std.specs.Str.{bytes_eq}
 use Rattle.hex.specs.Hex.{decode_sized}
 use Rattle.toml.specs.Data.{Data, Items, no_items, item, as_array, as_integer, as_str}
 use Rattle.eid_bits.specs.Date.{is_between, is_date, is_long_date}
-use Rattle.eid_text.specs.Hexadecimal.{bytes_within}
+use Rattle.eid_text.specs.Hexadecimal.{at_most, bytes_within}
 use Rattle.eid_record.specs.declared.fields.Password.{Password}
 use Rattle.eid_record.specs.declared.fields.Password.TheVariants.{Can, Pin, Puk}
 use Rattle.eid_cvc.specs.CertificateIn.{certificate_in}
@@ -119,9 +119,6 @@ abbrev pub each_item : {A : Type 0} → (Data → Option A) → Items → Option
 each_item form no_items = Some []
 each_item form (item value later) = option_and_then (λ x. option_map (λ xs. x ∷ xs) (each_item form later)) (form value)
 
-abbrev pub no_longer : {A : Type 0} → ℕ → List A → Option (List A)
-no_longer most list = if nat_le (length list) most then Some list else None
-
 -- a list of at most so many values of a form
 abbrev pub list_of : {A : Type 0} → ℕ → (Data → Option A) → Data → Option (List A)
-list_of most form value = option_and_then (no_longer most) (option_and_then (each_item form) (as_array value))
+list_of most form value = option_and_then (at_most most) (option_and_then (each_item form) (as_array value))

@@ -11,6 +11,7 @@ use crate::config::ConfigError;
 use crate::forms;
 use crate::keys::value_at;
 use crate::names::file_name;
+use eid_record::FILES;
 use std::alloc::Global;
 use toml::Table;
 
@@ -18,7 +19,7 @@ use toml::Table;
 #[derive(Drop)]
 pub struct FileSet {
     /// The length of each file by its number; `None` is an absent file.
-    pub lengths: [Option<u16>; 23],
+    pub lengths: [Option<u16>; FILES],
     /// The bytes of the files that are there, one behind the other.
     pub bytes: Vec<u8>,
 }
@@ -84,9 +85,9 @@ pub fn read_files(alloc: Global, table: &Table) -> Result<FileSet, ConfigError>
     ensures reads { Reads (λ f. (f.lengths, f.bytes.items)) result (files_from 18 [] [] file_names (table_view table.now)) }
     ensures valid { IfOk result (λ f. AreFiles f.lengths f.bytes.items) }
 {
-    let mut lengths = [None; 23];
+    let mut lengths = [None; FILES];
     let mut bytes = Vec::new(alloc);
-    for i in 0..23 {
+    for i in 0..FILES {
         match next_file(alloc, table, 18 + i as u8, file_name(i), &mut bytes) {
             Ok(length) => lengths[i] = length,
             Err(error) => return Err(error),

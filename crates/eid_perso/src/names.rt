@@ -2,10 +2,13 @@
 ghost use Rattle.std.specs.Prelude.{◌≡◌, ◌<◌, [], slice_index_or};
 ghost use Rattle.std.specs.List.{position};
 ghost use Rattle.std.specs.Str.{bytes_eq};
+ghost use Rattle.eid_record.specs.Layout.{file_count};
 ghost use Rattle.eid_perso.specs.Names.{file_names, group_named};
 
+use eid_record::FILES;
+
 /// Each file's name, in the order of the files' numbers.
-const FILE_NAMES: [&str; 23] = [
+const FILE_NAMES: [&str; FILES] = [
     "card_access",
     "card_security",
     "dg1",
@@ -33,7 +36,7 @@ const FILE_NAMES: [&str; 23] = [
 
 /// The name of the file of this number.
 pub fn file_name(file: usize) -> &'static str
-    requires { file < 23 }
+    requires { file < file_count }
     ensures { result.now ≡ slice_index_or file_names file [] }
 {
     FILE_NAMES[file]

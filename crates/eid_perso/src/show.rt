@@ -3,6 +3,7 @@ ghost use Rattle.std.specs.Prelude.{◌≡◌, ◌<◌, ◌++◌, [], OnOk, IfOk
 ghost use Rattle.std.specs.Option.{option_map};
 ghost use Rattle.hex.specs.Hex.{encode_lower};
 ghost use Rattle.eid_bits.specs.Dates.{date_digits};
+ghost use Rattle.eid_record.specs.Layout.{file_count};
 ghost use Rattle.eid_record.specs.View.{trust_point_view, record_view};
 ghost use Rattle.eid_perso.specs.Names.{file_names};
 ghost use Rattle.eid_perso.specs.Show.{line, yes_or_no, ascii, name_text, file_line, file_lines, counter_lines, state_lines, shown};
@@ -10,7 +11,7 @@ ghost use Rattle.eid_perso.specs.Show.{line, yes_or_no, ascii, name_text, file_l
 use crate::names::file_name;
 use eid_base::NoMemory;
 use eid_bits::Date6;
-use eid_record::{Record, TrustPoint};
+use eid_record::{FILES, Record, TrustPoint};
 use std::alloc::Global;
 
 /// A text that grows.
@@ -108,7 +109,7 @@ impl Text {
 
     /// Appends the line of a file, where it is there.
     fn put_file(&mut self, file: usize, length: Option<u16>) -> Result<(), NoMemory>
-        requires { file < 23 }
+        requires { file < file_count }
         ensures { OnOk result (self.new.bytes.items ≡ self.old.bytes.items ++ file_line (slice_index_or file_names file []) length) }
     {
         match length {
@@ -118,10 +119,10 @@ impl Text {
     }
 
     /// Appends the lines of the files that are there.
-    fn put_files(&mut self, lengths: &[Option<u16>; 23]) -> Result<(), NoMemory>
+    fn put_files(&mut self, lengths: &[Option<u16>; FILES]) -> Result<(), NoMemory>
         ensures { OnOk result (self.new.bytes.items ≡ self.old.bytes.items ++ file_lines file_names lengths.now) }
     {
-        for file in 0..23 {
+        for file in 0..FILES {
             self.put_file(file, lengths[file])?;
         }
         Ok(())

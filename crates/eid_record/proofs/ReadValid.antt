@@ -1,5 +1,6 @@
 -- What is read is valid.
 use Rattle.std.proofs.Common.{◌≡◌, ℕ, zero, suc, ◌+◌, ◌-◌, ◌≤◌, ◌<◌, Bool, true, false, cond, ◌&&◌, List, [], ◌∷◌, length, drop, get_or, Option, Some, None, Result, Ok, Err, IsTrue, refl, ap, subst, ◌∙◌, arith, slice_index, slice_get, nat_le, eqb, ◌⊎◌, inl, inr, add-zero}
+use Rattle.std.specs.Char.{is_ascii_digit}
 use Rattle.std.specs.List.{list_all}
 use Rattle.std.specs.Option.{ForSome}
 use Rattle.std.specs.Int.{w16, w32, from_be_bytes}
@@ -7,7 +8,7 @@ use Rattle.std.proofs.lemmas.Bool.{leb-true, and_parts, and_from, eqb-true}
 use Rattle.std.proofs.lemmas.List.{length-take, length-drop, get_or-drop, get_or-take}
 use Rattle.eid_bits.specs.Date.{is_between, is_date}
 use Rattle.eid_record.specs.Plain.{PlainTrustPoint, PlainRecord}
-use Rattle.eid_record.specs.Reading.{◌>>=◌, bytes_from, is_ascii_digit, size, at_most, digits_at, date_at, is_trust_point_at, trust_point_of, trust_point_at, optional_point_at, length_at, lengths_from, counters_in, passwords_in, record_in}
+use Rattle.eid_record.specs.Reading.{◌>>=◌, bytes_from, size, at_most, digits_at, date_at, is_trust_point_at, trust_point_of, trust_point_at, optional_point_at, length_at, lengths_from, counters_in, passwords_in, record_in}
 use Rattle.eid_record.specs.Valid.{AreDigits, IsTrustPoint, lengths_fit, IsValid}
 
 -- the value of a step that did not fail

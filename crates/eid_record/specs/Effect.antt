@@ -42,10 +42,6 @@ files_after (Write file offset bytes) files =
     slice_set files file (option_map (replaced offset bytes) (slice_index_or files file None))
 files_after effect files = files
 
--- the full record after the effect
-abbrev pub full_applied : PlainEffect → FullRecord → FullRecord
-full_applied effect full = record { fields = applied effect full.fields; files = files_after effect full.files }
-
 -- the fields after a commit of the effect, which raises the commit number by one
 abbrev pub committed_fields : PlainEffect → PlainRecord → PlainRecord
 committed_fields effect r = record (applied effect r) { number = r.number + 1 }

@@ -10,6 +10,10 @@ use Rattle.eid_record.specs.Plain.{PlainTrustPoint, PlainRecord}
 abbrev pub fixed_size : ℕ
 fixed_size = 448
 
+-- the files that there are, present or absent
+abbrev pub file_count : ℕ
+file_count = 23
+
 abbrev pub number_place : ℕ  -- four bytes, big-endian
 number_place = 0
 
@@ -46,7 +50,7 @@ ca_secret_place = 320
 abbrev pub ri_secret_place : ℕ  -- 32 bytes
 ri_secret_place = 352
 
-abbrev pub lengths_place : ℕ  -- 23 lengths, two bytes each, big-endian; FFFF where the file is absent
+abbrev pub lengths_place : ℕ  -- the lengths of the files, two bytes each, big-endian; FFFF where the file is absent
 lengths_place = 384
 
 -- in a trust point

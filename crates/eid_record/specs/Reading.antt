@@ -1,9 +1,10 @@
 -- What the fixed bytes of a record say: its fields, or the first place of the first field that is refused.
 use Rattle.std.specs.Prelude.{◌≡◌, ℕ, zero, suc, ◌+◌, Bool, ◌&&◌, List, [], ◌∷◌, Option, Some, None, Result, Ok, Err, slice_index, slice_range, nat_le, ◌==◌, if◌then◌else◌}
+use Rattle.std.specs.Char.{is_ascii_digit}
 use Rattle.std.specs.List.{list_all}
 use Rattle.std.specs.Int.{w16, w32, from_be_bytes}
 use Rattle.eid_bits.specs.Date.{is_between, is_date}
-use Rattle.eid_record.specs.Layout.{number_place, tries_place, unblocks_place, active_place, pin_place, can_place, puk_place, date_place, current_place, previous_place, ca_secret_place, ri_secret_place, lengths_place, name_place, template_place, key_place, present_place, absent}
+use Rattle.eid_record.specs.Layout.{file_count, number_place, tries_place, unblocks_place, active_place, pin_place, can_place, puk_place, date_place, current_place, previous_place, ca_secret_place, ri_secret_place, lengths_place, name_place, template_place, key_place, present_place, absent}
 use Rattle.eid_record.specs.declared.reading.BadRecord.{BadRecord}
 use Rattle.eid_record.specs.Plain.{PlainTrustPoint, PlainRecord}
 
@@ -25,9 +26,6 @@ bytes_from count place fixed = slice_range fixed place (place + count)
 unfoldable pub at_most : ℕ → ℕ → List ℕ → Result ℕ ℕ
 at_most most place fixed =
     if nat_le (slice_index fixed place) most then Ok (slice_index fixed place) else Err place
-
-abbrev pub is_ascii_digit : ℕ → Bool
-is_ascii_digit b = is_between 48 57 b
 
 -- this many ASCII digits
 unfoldable pub digits_at : ℕ → ℕ → List ℕ → Result (List ℕ) ℕ
@@ -105,7 +103,7 @@ record_in fixed = do
   date ← date_at date_place fixed
   current ← trust_point_at current_place fixed
   previous ← optional_point_at previous_place fixed
-  lengths ← lengths_from 23 lengths_place 0 fixed
+  lengths ← lengths_from file_count lengths_place 0 fixed
   Ok (record {
     number = from_be_bytes w32 (bytes_from 4 number_place fixed);
     tries = counters.0;

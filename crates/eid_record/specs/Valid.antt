@@ -1,10 +1,11 @@
 -- The values that a record may have.
 use Rattle.std.specs.Prelude.{◌≡◌, ℕ, ◌+◌, ◌≤◌, Bool, true, ◌&&◌, List, [], ◌∷◌, length, Option, Some, None, IsTrue, slice_get, nat_le}
+use Rattle.std.specs.Char.{is_ascii_digit}
 use Rattle.std.specs.List.{list_all}
 use Rattle.std.specs.Option.{ForSome}
 use Rattle.eid_bits.specs.Date.{is_between, is_date}
 use Rattle.eid_record.specs.Plain.{PlainTrustPoint, PlainRecord}
-use Rattle.eid_record.specs.Reading.{is_ascii_digit}
+use Rattle.eid_record.specs.Layout.{file_count}
 
 -- this many ASCII digits
 pub record AreDigits (n : ℕ) (bytes : List ℕ) : Type 0 where
@@ -41,5 +42,5 @@ pub record IsValid (r : PlainRecord) : Type 0 where
   pub previous : ForSome r.previous IsTrustPoint
   pub ca_secret : length r.ca_secret ≡ 32
   pub ri_secret : length r.ri_secret ≡ 32
-  pub files : length r.lengths ≡ 23
+  pub files : length r.lengths ≡ file_count
   pub lengths : IsTrue (lengths_fit 0 r.lengths)

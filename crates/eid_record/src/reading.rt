@@ -1,5 +1,7 @@
 ghost use Rattle.std.specs.Prelude.{◌≡◌, ◌+◌, ◌<◌, ◌≤◌, IsTrue, IfOk, slice_index};
-ghost use Rattle.eid_record.specs.Reading.{Reads, bytes_from, is_ascii_digit, at_most, digits_at, date_at, is_trust_point_at, trust_point_at, optional_point_at, size, length_at, lengths_from, counters_in, passwords_in, record_in};
+ghost use Rattle.std.specs.Char.{is_ascii_digit};
+ghost use Rattle.eid_record.specs.Layout.{file_count, lengths_place};
+ghost use Rattle.eid_record.specs.Reading.{Reads, bytes_from, at_most, digits_at, date_at, is_trust_point_at, trust_point_at, optional_point_at, size, length_at, lengths_from, counters_in, passwords_in, record_in};
 ghost use Rattle.eid_record.specs.Valid.{IsValid};
 ghost use Rattle.eid_record.specs.View.{trust_point_view, record_view};
 ghost use Rattle.std.specs.List.{list_all};
@@ -151,7 +153,7 @@ fn length_at(fixed: &[u8; FIXED], place: u16, sum: u32) -> Result<Option<u16>, B
 }
 
 fn lengths(fixed: &[u8; FIXED]) -> Result<[Option<u16>; FILES], BadRecord>
-    ensures { Reads (λ x. x) result (lengths_from 23 384 0 fixed.now) }
+    ensures { Reads (λ x. x) result (lengths_from file_count lengths_place 0 fixed.now) }
 {
     let mut lengths = [None; FILES];
     let mut place = LENGTHS;

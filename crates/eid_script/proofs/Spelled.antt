@@ -16,9 +16,10 @@ use Rattle.hex.specs.Hex.{decode_sized}
 use Rattle.hex.specs.declared.error.FromHexError.{FromHexError}
 use Rattle.eid_cells.specs.declared.tear.Tear.{Tear}
 use Rattle.eid_cells.specs.declared.tear.Tear.TheVariants.{Old, New, Half, Fill}
-use Rattle.eid_script.specs.Scripts.{ScriptLine, OnLine, OffLine, ApduLine, CutLine, command_line, filled, tear_of, write_of, cut_at, is_space, cut_line, is_skipped, says}
+use Rattle.eid_script.specs.Scripts.{ScriptLine, OnLine, OffLine, ApduLine, CutLine, command_line, filled, tear_of, write_of, cut_at, cut_line, is_skipped, says}
 use Rattle.eid_script.specs.Grammar.{IsApdu, IsFill, IsTear, IsCut, Spells, IsNote}
 use Rattle.eid_text.specs.Hexadecimal.{bytes_within}
+use Rattle.eid_text.specs.Lines.{is_space}
 use Rattle.eid_text.proofs.Hexadecimal.{decodes_one, decoded_one}
 use Rattle.eid_text.proofs.Decoding.{within_reads, within_told}
 use Rattle.eid_text.proofs.Readings.{Told, Agrees}

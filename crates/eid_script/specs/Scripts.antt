@@ -8,7 +8,7 @@ use Rattle.std.specs.Char.{is_ascii_digit}
 use Rattle.hex.specs.Hex.{decode_sized}
 use Rattle.hex.specs.declared.error.FromHexError.{FromHexError}
 use Rattle.eid_text.specs.Hexadecimal.{bytes_within}
-use Rattle.eid_text.specs.Lines.{said_in}
+use Rattle.eid_text.specs.Lines.{is_space, said_in}
 use Rattle.eid_cells.specs.declared.tear.Tear.{Tear}
 use Rattle.eid_cells.specs.declared.tear.Tear.TheVariants.{Old, New, Half, Fill}
 use Rattle.eid_script.specs.declared.script.Line.{Line}
@@ -61,9 +61,6 @@ abbrev pub cut_at : Option ℕ → Option Tear → Option (List ScriptLine)
 cut_at None tear = None
 cut_at (Some write) None = None
 cut_at (Some write) (Some tear) = Some (CutLine write tear ∷ [])
-
-abbrev pub is_space : ℕ → Bool
-is_space c = c == 32
 
 -- the words behind `cut `: the number of the write, one space, and what the cut leaves
 abbrev pub cut_line : List ℕ → Option (List ScriptLine)

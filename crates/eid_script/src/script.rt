@@ -7,8 +7,8 @@ ghost use Rattle.std.specs.Char.{is_ascii_digit};
 ghost use Rattle.std.specs.Str.Parse.{digits_value};
 ghost use Rattle.hex.specs.Hex.{decode_sized};
 ghost use Rattle.eid_text.specs.Hexadecimal.{bytes_within};
-ghost use Rattle.eid_text.specs.Lines.{is_lf, text_limit, text_says};
-ghost use Rattle.eid_script.specs.Scripts.{plain_line, command_line, filled, tear_of, write_of, cut_line, is_space, says, script_of, NamesLine};
+ghost use Rattle.eid_text.specs.Lines.{is_lf, is_space, text_limit, text_says};
+ghost use Rattle.eid_script.specs.Scripts.{plain_line, command_line, filled, tear_of, write_of, cut_line, says, script_of, NamesLine};
 
 use eid_base::NoMemory;
 use eid_cells::Tear;

@@ -17,8 +17,9 @@ IsHex (high ∷ low ∷ digits) [] = ⊥
 IsHex (high ∷ low ∷ digits) (byte ∷ bytes) =
     (byte < 256) × IsDigit high (byte / 16) × IsDigit low (byte % 16) × IsHex digits bytes
 
-abbrev pub at_most : ℕ → List ℕ → Option (List ℕ)
-at_most most bytes = if nat_le (length bytes) most then Some bytes else None
+-- a list, where it has at most so many items
+abbrev pub at_most : {A : Type 0} → ℕ → List A → Option (List A)
+at_most most list = if nat_le (length list) most then Some list else None
 
 -- the bytes that a text of digits writes, where they are at most so many
 abbrev pub bytes_within : ℕ → List ℕ → Option (List ℕ)

@@ -6,6 +6,9 @@ use Rattle.std.specs.List.{slice_split}
 abbrev pub is_lf : ℕ → Bool
 is_lf c = c == 10
 
+abbrev pub is_space : ℕ → Bool
+is_space c = c == 32
+
 -- what was said first, and then what is said later
 abbrev pub after : {S : Type 0} → List S → Result (List S) ℕ → Result (List S) ℕ
 after first (Ok later) = Ok (first ++ later)

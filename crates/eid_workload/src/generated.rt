@@ -17,7 +17,7 @@ use crate::spelling::{
 use eid_base::NoMemory;
 use eid_bits::Template;
 use eid_perso::{Config, image_of};
-use eid_record::{Password, Record, TrustPoint};
+use eid_record::{FILES, Password, Record, TrustPoint};
 use eid_store::TWO_SLOTS;
 use eid_terminal::{Plan, Request};
 use std::alloc::Global;
@@ -54,7 +54,7 @@ fn record_of(number: u32, digits: u16) -> Record
     ensures is { record_view result ≡ big_fields number }
     ensures valid { IsValid (record_view result) }
 {
-    let mut lengths = [None; 23];
+    let mut lengths = [None; FILES];
     lengths[0] = Some(2);
     lengths[1] = Some(2);
     lengths[4] = Some(8);

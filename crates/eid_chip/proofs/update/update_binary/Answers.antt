@@ -15,7 +15,7 @@ use Rattle.eid_chip.specs.Held.{held}
 use Rattle.eid_chip.specs.States.{state}
 use Rattle.eid_chip.specs.Steps.{refusal}
 use Rattle.eid_chip.proofs.Outcomes.{refused_unasked}
-use Rattle.eid_files.specs.Ranges.{refused_by}
+use Rattle.eid_base.specs.Rules.{refused_by}
 use Rattle.eid_chip.specs.Steps.{PlainRefusal}
 use Rattle.eid_chip.proofs.HeldFiles.{range_refusal, written_in, written_out}
 use Rattle.eid_chip.proofs.ReadSteps.{none_there}
