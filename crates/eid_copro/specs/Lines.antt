@@ -1,7 +1,7 @@
 -- Answers as lines of text (this project's own): `nonce HEX` (16 bytes), `challenge HEX` (8),
 -- `pair SECRET PUBLIC` (32 and 65), `map POINT` (65) or `map none`, `agree HEX` (32) or `agree none`,
 -- `verify yes`, `verify no`, `sign HEX` (64), `fault`.
-use Rattle.std.specs.Prelude.{ℕ, ◌==◌, Bool, true, false, List, [], ◌∷◌, if◌then◌else◌, codes}
+use Rattle.std.specs.Prelude.{ℕ, Bool, true, false, List, [], ◌∷◌, if◌then◌else◌, codes}
 use Rattle.std.specs.Prelude.{Option, Some, None, option_map, option_and_then, Result}
 use Rattle.std.specs.List.{before_first, after_first}
 use Rattle.std.specs.Result.{result_ok}

@@ -1,7 +1,6 @@
 -- Where the chip is authenticated, a terminal is known.
-use Rattle.std.proofs.Common.{◌≡◌, ℕ, Bool, true, false, not, ◌==◌, ◌&&◌, ◌||◌, List, [], ◌∷◌, ◌++◌, Option, Some, None, refl, sym, ap, ◌∙◌, subst}
-use Rattle.std.specs.Prelude.{is_some, option_and_then, unwrap_or, option_map, if◌then◌else◌}
-use Rattle.std.specs.Option.{option_or}
+use Rattle.std.proofs.Common.{◌≡◌, Bool, true, false, not, ◌==◌, ◌&&◌, ◌||◌, List, [], ◌∷◌, ◌++◌, Option, Some, None, refl, sym, ap, ◌∙◌, subst}
+use Rattle.std.specs.Prelude.{is_some, option_and_then, unwrap_or, if◌then◌else◌}
 use Rattle.std.specs.List.{list_all}
 use Rattle.std.proofs.lemmas.Bool.{and_parts, eqb-true}
 use Rattle.eid_apdu.specs.Command.{PlainCommand}
@@ -15,13 +14,13 @@ use Rattle.eid_model.specs.declared.kind.Kind.TheVariants.{AuthenticateChip, Ext
 use Rattle.eid_model.specs.Answers.{outcome}
 use Rattle.eid_model.specs.Chains.{fragment, request_of}
 use Rattle.eid_model.specs.Kinds.{has_form_of, kind_in_table, kind_named, kinds}
-use Rattle.eid_model.specs.Laws.{IsTerminalKnown, all_rules, any_pace, is_kept, kind_sent}
-use Rattle.eid_model.specs.Ledger.{account, accepted, state_of, terminal}
+use Rattle.eid_model.specs.Laws.{IsTerminalKnown, all_rules, is_kept, kind_sent}
+use Rattle.eid_model.specs.Ledger.{account, accepted, terminal}
 use Rattle.eid_model.specs.Legal.{AreLegal}
 use Rattle.eid_model.specs.Moments.{PlainMoment, ends_session, live, succeeded}
 use Rattle.eid_model.specs.Rules.{Situation}
 use Rattle.eid_model.specs.Runs.{Authentication, Phase, Step, answers_of, authentication, continued, is_piece_of_next, kind_done, next, phase, run}
-use Rattle.eid_model.specs.Sessions.{State, chip_proof, chip_proven, context_of, kind_of_moment, made_known, pace, pace_by, pace_completed, terminal_behind}
+use Rattle.eid_model.specs.Sessions.{chip_proof, chip_proven, context_of, kind_of_moment, made_known, pace, pace_by, pace_completed, terminal_behind}
 use Rattle.eid_model.proofs.Access.{all_kept}
 use Rattle.eid_model.proofs.Comparisons.{behind, weaker}
 use Rattle.eid_model.proofs.Laws.{IsAnswered, answered_for, at, kind_so, rule_so}

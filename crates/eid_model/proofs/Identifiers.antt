@@ -1,6 +1,6 @@
 -- The law of the access to identifiers in sectors.
-use Rattle.std.proofs.Common.{◌≡◌, ℕ, Bool, true, false, not, ◌==◌, ◌&&◌, ◌||◌, List, [], ◌∷◌, Option, Some, None, refl, sym, ap, ◌∙◌}
-use Rattle.std.specs.Prelude.{◌↔◌, find, is_some, option_and_then, option_map, if◌then◌else◌}
+use Rattle.std.proofs.Common.{◌≡◌, ℕ, Bool, true, false, not, ◌==◌, ◌&&◌, ◌||◌, List, [], ◌∷◌, Option, Some, None, refl, sym, ◌∙◌}
+use Rattle.std.specs.Prelude.{◌↔◌, is_some, option_and_then, if◌then◌else◌}
 use Rattle.std.specs.List.{list_all}
 use Rattle.std.proofs.lemmas.Bool.{and_parts, eqb-true}
 use Rattle.eid_apdu.specs.Command.{PlainCommand}
@@ -12,8 +12,8 @@ use Rattle.eid_ri.specs.SectorKeysIn.{sector_keys_in}
 use Rattle.eid_model.specs.declared.kind.Kind.{Kind}
 use Rattle.eid_model.specs.declared.kind.Kind.TheVariants.{PerformRestrictedIdentification, SelectRestrictedIdentification}
 use Rattle.eid_model.specs.Answers.{outcome}
-use Rattle.eid_model.specs.Chains.{as_fragment, fragment, request_of}
-use Rattle.eid_model.specs.Kinds.{KindRow, has_form_of, has_parameters, kind_in_table, kind_named, kinds, same_kind}
+use Rattle.eid_model.specs.Chains.{fragment, request_of}
+use Rattle.eid_model.specs.Kinds.{has_form_of, kind_in_table, kind_named, kinds}
 use Rattle.eid_model.specs.Laws.{HasCompleted, HasRight, SelectionHolds, all_rules, is_kept, is_on_access, kind_sent, others_hold, sectors_asked, sent_at}
 use Rattle.eid_model.specs.Ledger.{account, state_of}
 use Rattle.eid_model.specs.Legal.{AreLegal}

@@ -604,11 +604,26 @@ kind_rules =
     -- the reference names a password: 2 the CAN, 3 the PIN, 4 the PUK
     record { number = password_rule; status = fixed 0x6A88; kinds = SelectPace ∷ []; holds = λ s. names_password (selection_in s.command.body) } ∷
     -- by offset alone: there is a current file
-    record { number = current_rule; status = fixed 0x6986; kinds = ReadBinary ∷ UpdateBinary ∷ []; holds = λ s. is_by_short s.command || is_some s.state.current } ∷
+    record {
+      number = current_rule;
+      status = fixed 0x6986;
+      kinds = ReadBinary ∷ UpdateBinary ∷ [];
+      holds = λ s. is_by_short s.command || is_some s.state.current;
+    } ∷
     -- the identifier is the application's, or names a file
-    record { number = named_rule; status = fixed 0x6A82; kinds = SelectApplication ∷ SelectFile ∷ ReadBinary ∷ UpdateBinary ∷ []; holds = λ s. is_named s.kind s } ∷
+    record {
+      number = named_rule;
+      status = fixed 0x6A82;
+      kinds = SelectApplication ∷ SelectFile ∷ ReadBinary ∷ UpdateBinary ∷ [];
+      holds = λ s. is_named s.kind s;
+    } ∷
     -- the file is a data group that may be written: one from 17 on
-    record { number = writable_rule; status = fixed 0x6982; kinds = UpdateBinary ∷ []; holds = λ s. with_file (λ f. is_between 17 last_data_group (group_of f)) (file_meant s) } ∷
+    record {
+      number = writable_rule;
+      status = fixed 0x6982;
+      kinds = UpdateBinary ∷ [];
+      holds = λ s. with_file (λ f. is_between 17 last_data_group (group_of f)) (file_meant s);
+    } ∷
     -- PACE begins with the PIN: it is active
     record { number = active_rule; status = fixed 0x6984; kinds = EncryptedNonce ∷ []; holds = λ s. not (starts_pin s.state.phase) || s.kept.fields.active } ∷
     -- a try is left
@@ -665,7 +680,12 @@ kind_rules =
       holds = λ s. not (is_for_terminal s.kind (file_meant s)) || s.state.chip_proven;
     } ∷
     -- that PACE was with the PIN, to change it, or with the PUK, to unblock the PIN; or a terminal may manage it
-    record { number = management_rule; status = fixed 0x6982; kinds = ChangePin ∷ UnblockPin ∷ []; holds = λ s. may_manage s.kind s.state.pace || manages_pin s.state } ∷
+    record {
+      number = management_rule;
+      status = fixed 0x6982;
+      kinds = ChangePin ∷ UnblockPin ∷ [];
+      holds = λ s. may_manage s.kind s.state.pace || manages_pin s.state;
+    } ∷
     -- after PACE with the PUK: an unblocking is left
     record {
       number = unblocking_rule;
@@ -711,7 +731,12 @@ kind_rules =
       holds = λ s. is_yes (compared_of s.kept (comparison_in s.command.body) s.state.terminal);
     } ∷
     -- the file is present
-    record { number = present_rule; status = fixed 0x6A82; kinds = ReadBinary ∷ UpdateBinary ∷ []; holds = λ s. is_some (bytes_of_file s.kept (file_meant s)) } ∷
+    record {
+      number = present_rule;
+      status = fixed 0x6A82;
+      kinds = ReadBinary ∷ UpdateBinary ∷ [];
+      holds = λ s. is_some (bytes_of_file s.kept (file_meant s));
+    } ∷
     -- the offset is at most the file's length
     record {
       number = offset_rule;
@@ -775,7 +800,12 @@ answer_rules =
     -- no question of this command met a fault
     record { number = fault_rule; status = fixed 0x6F00; kinds = []; holds = λ s. not (list_any is_fault s.answers) } ∷
     -- the terminal's ephemeral point differs from the chip's
-    record { number = same_point_rule; status = fixed 0x6300; kinds = PerformKeyAgreement ∷ []; holds = λ s. not (is_own_point (data_in s.command.body) s.answers) } ∷
+    record {
+      number = same_point_rule;
+      status = fixed 0x6300;
+      kinds = PerformKeyAgreement ∷ [];
+      holds = λ s. not (is_own_point (data_in s.command.body) s.answers);
+    } ∷
     -- no question was answered with no point
     record {
       number = no_point_rule;
@@ -784,7 +814,12 @@ answer_rules =
       holds = λ s. not (list_any is_no_point s.answers);
     } ∷
     -- the signature was not found wrong
-    record { number = signature_rule; status = fixed 0x6300; kinds = VerifyCertificate ∷ ExternalAuthenticate ∷ []; holds = λ s. not (list_any is_wrong s.answers) } ∷ []
+    record {
+      number = signature_rule;
+      status = fixed 0x6300;
+      kinds = VerifyCertificate ∷ ExternalAuthenticate ∷ [];
+      holds = λ s. not (list_any is_wrong s.answers);
+    } ∷ []
 
 -- whether there is room for what is to be committed
 abbrev pub commit_rules : List RuleRow

@@ -1,8 +1,7 @@
 -- The passwords that a record keeps, and when PACE may start with one (BSI TR-03110-2: the PIN is operational, suspended,
 -- blocked or deactivated). How many tries there are is this project's own.
-use Rattle.std.specs.Prelude.{ℕ, ◌+◌, Bool, true, false, ◌||◌, not, nat_le, nat_lt, List, Option, Some, None, Result, Ok, Err, if◌then◌else◌}
+use Rattle.std.specs.Prelude.{ℕ, ◌+◌, Bool, true, false, ◌||◌, not, nat_le, nat_lt, List, Option, Some, None, if◌then◌else◌}
 use Rattle.eid_base.specs.Rules.{active_rule, try_rule, resumed_rule}
-use Rattle.eid_base.specs.declared.codes.Rule.{Rule}
 use Rattle.eid_record.specs.Plain.{PlainRecord}
 use Rattle.eid_record.specs.declared.fields.Password.{Password}
 use Rattle.eid_record.specs.declared.fields.Password.TheVariants.{Can, Pin, Puk}
