@@ -1,5 +1,5 @@
 -- What one commit more does to a device.
-use Rattle.std.proofs.Common.{◌≡◌, ℕ, ◌+◌, ◌-◌, ◌≤◌, ◌<◌, Bool, true, false, List, length, Option, Some, Result, Ok, Err, IsTrue, refl, sym, ap, ◌∙◌, subst, arith, inl, inr}
+use Rattle.std.proofs.Common.{◌≡◌, ℕ, ◌+◌, ◌-◌, ◌≤◌, ◌<◌, Bool, true, false, List, Option, Some, Result, Ok, Err, IsTrue, refl, sym, ap, ◌∙◌, subst, arith, inl, inr}
 use Rattle.std.specs.Prelude.{◌⊎◌, nat_le}
 use Rattle.std.proofs.lemmas.Bool.Decides.{nat_tests}
 use Rattle.std.specs.Option.{option_map}
@@ -11,7 +11,6 @@ use Rattle.eid_store.specs.Durable.{IsAllOrNothing}
 use Rattle.eid_store.specs.Stands.{stands}
 use Rattle.eid_store.specs.Store as stored
 use Rattle.eid_store.specs.declared.store.Store.{Store}
-use Rattle.eid_store.proofs.Laws.{commit_bound}
 use Rattle.eid_chip.specs.Commits.{Wrote, WasCutBehind}
 use Rattle.eid_chip.specs.Held.{held}
 use Rattle.eid_chip.proofs.HeldFiles.{held_is, held_stands, held_fields}
@@ -85,25 +84,25 @@ pub has_none : (store : Store) (device : Device) (cells : List ℕ) → stored.F
 has_none store device cells fits = record { fits = fits; holds = held_stands store device cells fits; wrote = unwritten device }
 
 -- one more
-pub has_more : {T E : Type 0} (effect : PlainEffect) (finished : ℕ) (kept : FullRecord) (first : Device) (store next : Store) (old new : Device) (cells cells_now : List ℕ) (r : Result T E) (x : T) → length cells ≡ 65536 → Has finished kept first store old cells → r ≡ Ok x
-    → stands cells_now ≡ option_map (committed effect) (stands cells) → stored.Fits next new cells_now → Costs (stored.commit_cost store cells effect) old new r → Has (finished + 1) (committed effect kept) first next new cells_now
-has_more effect finished kept first store next old new cells cells_now r x long has is done fits costs =
-    let bound = commit_bound store old cells effect long has.fits in
+pub has_more : {T E : Type 0} (effect : PlainEffect) (finished : ℕ) (kept : FullRecord) (first : Device) (store next : Store) (old new : Device) (cells cells_now : List ℕ) (r : Result T E) (x : T) → Has finished kept first store old cells → r ≡ Ok x
+    → stands cells_now ≡ option_map (committed effect) (stands cells) → stored.Fits next new cells_now → Costs (stored.commit_cost store cells effect) old new r
+    → 5 ≤ stored.commit_cost store cells effect → stored.commit_cost store cells effect ≤ 384 → Has (finished + 1) (committed effect kept) first next new cells_now
+has_more effect finished kept first store next old new cells cells_now r x has is done fits costs least most =
     record {
       fits = fits;
       holds = holds_committed effect (stands cells) (stands cells_now) kept done has.holds;
-      wrote = wrote_more finished (stored.commit_cost store cells effect) first old new r x is bound.0 bound.1 has.wrote costs;
+      wrote = wrote_more finished (stored.commit_cost store cells effect) first old new r x is least most has.wrote costs;
     }
 
 -- one that was cut
-pub has_cut : {T E : Type 0} (effect : PlainEffect) (finished : ℕ) (kept : FullRecord) (first : Device) (store : Store) (old new : Device) (cells cells_now : List ℕ) (r : Result T E) (e : E) → length cells ≡ 65536 → Has finished kept first store old cells → r ≡ Err e
+pub has_cut : {T E : Type 0} (effect : PlainEffect) (finished : ℕ) (kept : FullRecord) (first : Device) (store : Store) (old new : Device) (cells cells_now : List ℕ) (r : Result T E) (e : E) → Has finished kept first store old cells → r ≡ Err e
     → IsAllOrNothing effect (stands cells) (stands cells_now) → Costs (stored.commit_cost store cells effect) old new r
+    → 5 ≤ stored.commit_cost store cells effect → stored.commit_cost store cells effect ≤ 384
     → ((stands cells_now ≡ Some kept) ⊎ (stands cells_now ≡ Some (committed effect kept))) × WasCutBehind finished first new
-has_cut effect finished kept first store old new cells cells_now r e long has is either costs =
-    let bound = commit_bound store old cells effect long has.fits in (
-      holds_either effect (stands cells) (stands cells_now) kept either has.holds,
-      cut_behind finished (stored.commit_cost store cells effect) first old new r e is bound.0 bound.1 has.wrote costs,
-    )
+has_cut effect finished kept first store old new cells cells_now r e has is either costs least most = (
+  holds_either effect (stands cells) (stands cells_now) kept either has.holds,
+  cut_behind finished (stored.commit_cost store cells effect) first old new r e is least most has.wrote costs,
+)
 
 -- the fields that the store keeps are those of the record
 pub kept_fields : (finished : ℕ) (kept : FullRecord) (first : Device) (store : Store) (device : Device) (cells : List ℕ) → Has finished kept first store device cells → stored.fields_of store ≡ kept.fields

@@ -1,5 +1,5 @@
 //! The chip, and what it does with the bytes of a command.
-ghost use Rattle.std.specs.Prelude.{◌≡◌, ◌≢◌, ◌≤◌, ◌↔◌, ℕ, true, false, List, [], ◌∷◌, length, slice_index, Option, Some, None, OnOk, OnErr, if◌then◌else◌};
+ghost use Rattle.std.specs.Prelude.{◌≡◌, ◌≢◌, ◌≤◌, ◌↔◌, ℕ, true, false, List, [], ◌∷◌, length, slice_index, Option, Some, None, IsSome, OnOk, OnErr, if◌then◌else◌};
 ghost use Rattle.std.specs.Option.{option_or};
 ghost use Rattle.arrayvec.specs.ArrayVec.{array_vec_len};
 ghost use Rattle.eid_apdu.specs.Command.{plain_command};
@@ -551,7 +551,7 @@ impl Chip {
         ensures untouched { result ≡ Err MountError.BadImage → E.cells cells.new ≡ E.cells cells.old }
         ensures same { stands (E.cells cells.new) ≡ stands (E.cells cells.old) }
         ensures layout { slice_index (E.cells cells.new) 0 ≡ slice_index (E.cells cells.old) 0 }
-        ensures bound { mount_cost (E.cells cells.old) ≤ MOST_MOUNTING }
+        ensures bound { IsSome (stands (E.cells cells.old)) → mount_cost (E.cells cells.old) ≤ MOST_MOUNTING }
         ensures device { Mounts (mount_cost (E.cells cells.old)) (record (E.device cells.old) { has_power = true }) (E.device cells.new) result }
     {
         cells.power(true);

@@ -43,9 +43,8 @@ returns-in_default-clause-ended g c = λ copro channel command sends.
     let full = held (cells c.args.cells.now) in
     let kept : full.fields ≡ record_view c.kept.result.now = held_fields c.args.store.now (device c.args.cells.now) (cells c.args.cells.now) c.requires.fits ∙ sym c.kept.ensures in
     let number : full.fields.number ≡ c.kept.result.now.number = ap (λ (r : PlainRecord). r.number) kept in
-    let long = g.met.E.Eeprom.count c.args.cells.now in
     let none = has_none c.args.store.now (device c.args.cells.now) (cells c.args.cells.now) c.requires.fits in
-    let left = has_cut Spend 0 full (device c.args.cells.now) c.args.store.now (device c.args.cells.now) (device c.commit.new.cells) (cells c.args.cells.now) (cells c.commit.new.cells) c.commit.result c.in_default.field-0 long none c.in_default.is c.in_default.ensures.cut c.commit.ensures.cost in
+    let left = has_cut Spend 0 full (device c.args.cells.now) c.args.store.now (device c.args.cells.now) (device c.commit.new.cells) (cells c.args.cells.now) (cells c.commit.new.cells) c.commit.result c.in_default.field-0 none c.in_default.is c.in_default.ensures.cut c.commit.ensures.cost c.commit.ensures.least c.commit.ensures.most in
     subst (λ (e : Ending). IsEndedByKind MutualAuthentication (state (at_tokens c.args.agreed c.args.memory) channel) command [] e (plain_reply c.lost.new.reply) (world copro c.args.store.now (device c.args.cells.now) (cells c.args.cells.now)) (world copro c.commit.new.self (device c.commit.new.cells) (cells c.commit.new.cells))) (sym c.lost.ensures.ending)
     (spend_cut c.args.agreed c.args.memory channel command c.args.token.now (plain_reply c.lost.new.reply) copro c.args.store.now c.commit.new.self (device c.args.cells.now) (device c.commit.new.cells) (cells c.args.cells.now) (cells c.commit.new.cells)
     sends c.requires.pin (omega (arith, number, c.if-kept-gt-LAST_NUMBER.false)) left)
@@ -57,9 +56,8 @@ returns-in_default-check-clause-ended g c = λ copro channel command sends.
     let full = held (cells c.args.cells.now) in
     let kept : full.fields ≡ record_view c.kept.result.now = held_fields c.args.store.now (device c.args.cells.now) (cells c.args.cells.now) c.requires.fits ∙ sym c.kept.ensures in
     let number : full.fields.number ≡ c.kept.result.now.number = ap (λ (r : PlainRecord). r.number) kept in
-    let long = g.met.E.Eeprom.count c.args.cells.now in
     let none = has_none c.args.store.now (device c.args.cells.now) (cells c.args.cells.now) c.requires.fits in
-    let one = has_more Spend 0 full (device c.args.cells.now) c.args.store.now c.commit.new.self (device c.args.cells.now) (device c.commit.new.cells) (cells c.args.cells.now) (cells c.commit.new.cells) c.commit.result c.in-Ok.receipt long none c.in-Ok.is c.in-Ok.ensures.committed c.in-Ok.ensures.fits c.commit.ensures.cost in
+    let one = has_more Spend 0 full (device c.args.cells.now) c.args.store.now c.commit.new.self (device c.args.cells.now) (device c.commit.new.cells) (cells c.args.cells.now) (cells c.commit.new.cells) c.commit.result c.in-Ok.receipt none c.in-Ok.is c.in-Ok.ensures.committed c.in-Ok.ensures.fits c.commit.ensures.cost c.commit.ensures.least c.commit.ensures.most in
     let plain = agreed_view c.args.agreed in
     let wrong = was_wrong (bytes_eq c.args.token.now (terminal_token plain)) (done_by plain) (chip_token plain) _ token_rule c.in_default-check.ensures in
     let tries : c.kept-2.result.now.tries ≡ full.fields.tries - 1 = ap (λ (r : PlainRecord). r.tries) (c.kept-2.ensures ∙ kept_fields 1 (committed Spend full) (device c.args.cells.now) c.commit.new.self (device c.commit.new.cells) (cells c.commit.new.cells) one) in
@@ -78,9 +76,8 @@ commit-requires-2-clause-number g c =
     let full = held (cells c.args.cells.now) in
     let kept : full.fields ≡ record_view c.kept.result.now = held_fields c.args.store.now (device c.args.cells.now) (cells c.args.cells.now) c.requires.fits ∙ sym c.kept.ensures in
     let number : full.fields.number ≡ c.kept.result.now.number = ap (λ (r : PlainRecord). r.number) kept in
-    let long = g.met.E.Eeprom.count c.args.cells.now in
     let none = has_none c.args.store.now (device c.args.cells.now) (cells c.args.cells.now) c.requires.fits in
-    let one = has_more Spend 0 full (device c.args.cells.now) c.args.store.now c.commit.new.self (device c.args.cells.now) (device c.commit.new.cells) (cells c.args.cells.now) (cells c.commit.new.cells) c.commit.result c.in-Ok.receipt long none c.in-Ok.is c.in-Ok.ensures.committed c.in-Ok.ensures.fits c.commit.ensures.cost in
+    let one = has_more Spend 0 full (device c.args.cells.now) c.args.store.now c.commit.new.self (device c.args.cells.now) (device c.commit.new.cells) (cells c.args.cells.now) (cells c.commit.new.cells) c.commit.result c.in-Ok.receipt none c.in-Ok.is c.in-Ok.ensures.committed c.in-Ok.ensures.fits c.commit.ensures.cost c.commit.ensures.least c.commit.ensures.most in
     let after = ap (λ (r : PlainRecord). r.number) (kept_fields 1 (committed Spend full) (device c.args.cells.now) c.commit.new.self (device c.commit.new.cells) (cells c.commit.new.cells) one) in
     omega (arith, number, after, c.if-kept-gt-LAST_NUMBER.false)
 
@@ -91,12 +88,11 @@ returns-in_default-commit-clause-ended g c = λ copro channel command sends.
     let full = held (cells c.args.cells.now) in
     let kept : full.fields ≡ record_view c.kept.result.now = held_fields c.args.store.now (device c.args.cells.now) (cells c.args.cells.now) c.requires.fits ∙ sym c.kept.ensures in
     let number : full.fields.number ≡ c.kept.result.now.number = ap (λ (r : PlainRecord). r.number) kept in
-    let long = g.met.E.Eeprom.count c.args.cells.now in
     let none = has_none c.args.store.now (device c.args.cells.now) (cells c.args.cells.now) c.requires.fits in
-    let one = has_more Spend 0 full (device c.args.cells.now) c.args.store.now c.commit.new.self (device c.args.cells.now) (device c.commit.new.cells) (cells c.args.cells.now) (cells c.commit.new.cells) c.commit.result c.in-Ok.receipt long none c.in-Ok.is c.in-Ok.ensures.committed c.in-Ok.ensures.fits c.commit.ensures.cost in
+    let one = has_more Spend 0 full (device c.args.cells.now) c.args.store.now c.commit.new.self (device c.args.cells.now) (device c.commit.new.cells) (cells c.args.cells.now) (cells c.commit.new.cells) c.commit.result c.in-Ok.receipt none c.in-Ok.is c.in-Ok.ensures.committed c.in-Ok.ensures.fits c.commit.ensures.cost c.commit.ensures.least c.commit.ensures.most in
     let plain = agreed_view c.args.agreed in
     let right = token_parts (bytes_eq c.args.token.now (terminal_token plain)) (done_view c.in-Ok-check.given.0) (done_by plain) c.in-Ok-check.given.1 (chip_token plain) token_rule c.in-Ok-check.ensures in
-    let left = has_cut Refill 1 (committed Spend full) (device c.args.cells.now) c.commit.new.self (device c.commit.new.cells) (device c.commit-2.new.cells) (cells c.commit.new.cells) (cells c.commit-2.new.cells) c.commit-2.result c.in_default-commit.field-0 (g.met.E.Eeprom.count c.commit.new.cells) one c.in_default-commit.is c.in_default-commit.ensures.cut c.commit-2.ensures.cost in
+    let left = has_cut Refill 1 (committed Spend full) (device c.args.cells.now) c.commit.new.self (device c.commit.new.cells) (device c.commit-2.new.cells) (cells c.commit.new.cells) (cells c.commit-2.new.cells) c.commit-2.result c.in_default-commit.field-0 one c.in_default-commit.is c.in_default-commit.ensures.cut c.commit-2.ensures.cost c.commit-2.ensures.least c.commit-2.ensures.most in
     let r = c.lost-in_default-commit in
     subst (λ (e : Ending). IsEndedByKind MutualAuthentication (state (at_tokens c.args.agreed c.args.memory) channel) command [] e (plain_reply r.new.reply) (world copro c.args.store.now (device c.args.cells.now) (cells c.args.cells.now)) (world copro c.commit-2.new.self (device c.commit-2.new.cells) (cells c.commit-2.new.cells))) (sym r.ensures.ending)
     (refill_cut c.args.agreed c.args.memory channel command c.args.token.now (plain_reply r.new.reply) copro c.args.store.now c.commit-2.new.self (device c.args.cells.now) (device c.commit-2.new.cells) (cells c.args.cells.now) (cells c.commit-2.new.cells)
@@ -109,12 +105,11 @@ returns-clause-ended g c = λ copro channel command sends.
     let full = held (cells c.args.cells.now) in
     let kept : full.fields ≡ record_view c.kept.result.now = held_fields c.args.store.now (device c.args.cells.now) (cells c.args.cells.now) c.requires.fits ∙ sym c.kept.ensures in
     let number : full.fields.number ≡ c.kept.result.now.number = ap (λ (r : PlainRecord). r.number) kept in
-    let long = g.met.E.Eeprom.count c.args.cells.now in
     let none = has_none c.args.store.now (device c.args.cells.now) (cells c.args.cells.now) c.requires.fits in
-    let one = has_more Spend 0 full (device c.args.cells.now) c.args.store.now c.commit.new.self (device c.args.cells.now) (device c.commit.new.cells) (cells c.args.cells.now) (cells c.commit.new.cells) c.commit.result c.in-Ok.receipt long none c.in-Ok.is c.in-Ok.ensures.committed c.in-Ok.ensures.fits c.commit.ensures.cost in
+    let one = has_more Spend 0 full (device c.args.cells.now) c.args.store.now c.commit.new.self (device c.args.cells.now) (device c.commit.new.cells) (cells c.args.cells.now) (cells c.commit.new.cells) c.commit.result c.in-Ok.receipt none c.in-Ok.is c.in-Ok.ensures.committed c.in-Ok.ensures.fits c.commit.ensures.cost c.commit.ensures.least c.commit.ensures.most in
     let plain = agreed_view c.args.agreed in
     let right = token_parts (bytes_eq c.args.token.now (terminal_token plain)) (done_view c.in-Ok-check.given.0) (done_by plain) c.in-Ok-check.given.1 (chip_token plain) token_rule c.in-Ok-check.ensures in
-    let two = has_more Refill 1 (committed Spend full) (device c.args.cells.now) c.commit.new.self c.commit-2.new.self (device c.commit.new.cells) (device c.commit-2.new.cells) (cells c.commit.new.cells) (cells c.commit-2.new.cells) c.commit-2.result c.in-Ok-commit.field-0 (g.met.E.Eeprom.count c.commit.new.cells) one c.in-Ok-commit.is c.in-Ok-commit.ensures.committed c.in-Ok-commit.ensures.fits c.commit-2.ensures.cost in
+    let two = has_more Refill 1 (committed Spend full) (device c.args.cells.now) c.commit.new.self c.commit-2.new.self (device c.commit.new.cells) (device c.commit-2.new.cells) (cells c.commit.new.cells) (cells c.commit-2.new.cells) c.commit-2.result c.in-Ok-commit.field-0 one c.in-Ok-commit.is c.in-Ok-commit.ensures.committed c.in-Ok-commit.ensures.fits c.commit-2.ensures.cost c.commit-2.ensures.least c.commit-2.ensures.most in
     let fields = c.kept-3.ensures ∙ kept_fields 2 (committed Refill (committed Spend full)) (device c.args.cells.now) c.commit-2.new.self (device c.commit-2.new.cells) (cells c.commit-2.new.cells) two in
     let own = c.in-Ok-check.given.1 in
     let said = c.accept.ensures.reply ∙ ap (λ (r : PlainRecord). data_alone (object 0x7C (object 0x86 own ++ object 0x87 r.current.name ++ previous_name r.previous))) fields ∙ ap (λ (o : List ℕ). data_alone (last_data full o)) right.2 in

@@ -34,7 +34,7 @@ returns-in_default-clause-ended g c = λ before after channel kind command asks 
     let full = held (cells c.args.cells.now) in
     let number : full.fields.number ≡ c.kept.result.now.number = ap (λ (r : PlainRecord). r.number) (held_fields c.args.store.now (device c.args.cells.now) (cells c.args.cells.now) c.requires.fits ∙ sym c.kept.ensures) in
     let effect = effect_view c.args.effect.now in
-    let left = has_cut effect 0 full (device c.args.cells.now) c.args.store.now (device c.args.cells.now) (device c.commit.new.cells) (cells c.args.cells.now) (cells c.commit.new.cells) c.commit.result c.in_default.field-0 (g.met.E.Eeprom.count c.args.cells.now) (has_none c.args.store.now (device c.args.cells.now) (cells c.args.cells.now) c.requires.fits) c.in_default.is c.in_default.ensures.cut c.commit.ensures.cost in
+    let left = has_cut effect 0 full (device c.args.cells.now) c.args.store.now (device c.args.cells.now) (device c.commit.new.cells) (cells c.args.cells.now) (cells c.commit.new.cells) c.commit.result c.in_default.field-0 (has_none c.args.store.now (device c.args.cells.now) (cells c.args.cells.now) c.requires.fits) c.in_default.is c.in_default.ensures.cut c.commit.ensures.cost c.commit.ensures.least c.commit.ensures.most in
     let said = plain_reply c.lost.new.reply in
     subst (λ (e : Ending). IsEndedByKind kind (state c.args.session channel) command asks e said (world before c.args.store.now (device c.args.cells.now) (cells c.args.cells.now)) (world after c.commit.new.self (device c.commit.new.cells) (cells c.commit.new.cells))) (sym c.lost.ensures.ending)
     (one_cut kind c.args.session channel command asks effect c.args.change said before after c.args.store.now c.commit.new.self (device c.args.cells.now) (device c.commit.new.cells) (cells c.args.cells.now) (cells c.commit.new.cells)
@@ -47,7 +47,7 @@ returns-clause-ended g c = λ before after channel kind command asks one.
     let full = held (cells c.args.cells.now) in
     let number : full.fields.number ≡ c.kept.result.now.number = ap (λ (r : PlainRecord). r.number) (held_fields c.args.store.now (device c.args.cells.now) (cells c.args.cells.now) c.requires.fits ∙ sym c.kept.ensures) in
     let effect = effect_view c.args.effect.now in
-    let has = has_more effect 0 full (device c.args.cells.now) c.args.store.now c.commit.new.self (device c.args.cells.now) (device c.commit.new.cells) (cells c.args.cells.now) (cells c.commit.new.cells) c.commit.result c.in-Ok.field-0 (g.met.E.Eeprom.count c.args.cells.now) (has_none c.args.store.now (device c.args.cells.now) (cells c.args.cells.now) c.requires.fits) c.in-Ok.is c.in-Ok.ensures.committed c.in-Ok.ensures.fits c.commit.ensures.cost in
+    let has = has_more effect 0 full (device c.args.cells.now) c.args.store.now c.commit.new.self (device c.args.cells.now) (device c.commit.new.cells) (cells c.args.cells.now) (cells c.commit.new.cells) c.commit.result c.in-Ok.field-0 (has_none c.args.store.now (device c.args.cells.now) (cells c.args.cells.now) c.requires.fits) c.in-Ok.is c.in-Ok.ensures.committed c.in-Ok.ensures.fits c.commit.ensures.cost c.commit.ensures.least c.commit.ensures.most in
     let said = plain_reply c.carried_out.new.reply in
     let did = c.carried_out.ensures.did in
     subst (λ (e : Ending). IsEndedByKind kind (state c.args.session channel) command asks e said (world before c.args.store.now (device c.args.cells.now) (cells c.args.cells.now)) (world after c.commit.new.self (device c.commit.new.cells) (cells c.commit.new.cells))) (sym c.committed.ensures)

@@ -10,7 +10,7 @@ pub returns-clause-made : goal.returns-clause-made
 returns-clause-made g c =
     let good : c.power_on.result ≢ Err BadImage = λ bad. some_is_not_none _ c.requires (c.power_on.ensures.bad_image.0 bad) in
     λ log. line_same _ _ log _ _ _ (ap (λ (n : Option ℕ). silent (PoweredOn n)) c.number_found-found.ensures)
-    (line_on _ _ c.power_on.result _ log good c.power_on.ensures.bound (c.power_on.ensures.follows good) c.power_on.ensures.device)
+    (line_on _ _ c.power_on.result _ log good (c.power_on.ensures.bound c.requires) (c.power_on.ensures.follows good) c.power_on.ensures.device)
 
 pub returns-clause-keeps : goal.returns-clause-keeps
 returns-clause-keeps g c =

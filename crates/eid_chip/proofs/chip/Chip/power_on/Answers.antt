@@ -5,7 +5,6 @@ use Rattle.eid_record.specs.Plain.{PlainRecord}
 use Rattle.eid_model.specs.Sessions.{State, fresh}
 use Rattle.eid_chip.specs.States.{chained, state}
 use Rattle.eid_chip.specs.Fits.{scene}
-use Rattle.eid_store.proofs.Laws.{mount_bound}
 use Rattle.eid_chip.proofs.Chips.{on_follows, cut_follows, new_fits}
 use Rattle.eid_chip.proofs.chip.Chip.power_on.Goals as goal
 
@@ -35,7 +34,7 @@ pub returns-in-Err-clause-follows : goal.returns-in-Err-clause-follows
 returns-in-Err-clause-follows g c = λ good. cut_follows _ _ refl (c.mount.ensures.same ∙ rw c.power.ensures.cells refl)
 
 pub returns-in-Ok-clause-bound : goal.returns-in-Ok-clause-bound
-returns-in-Ok-clause-bound g c = mount_bound (g.E.Eeprom.cells c.args.cells.now)
+returns-in-Ok-clause-bound g c = rw (← c.power.ensures.cells) c.mount.ensures.most
 
 pub returns-in-Err-clause-bound : goal.returns-in-Err-clause-bound
-returns-in-Err-clause-bound g c = mount_bound (g.E.Eeprom.cells c.args.cells.now)
+returns-in-Err-clause-bound g c = rw (← c.power.ensures.cells) c.mount.ensures.most
