@@ -27,6 +27,7 @@ use eid_apdu::Reply;
 use eid_base::Point;
 use eid_bits::Known;
 use eid_ca::keys::{enc_key, mac_key, token};
+use eid_cmac::SessionKeys;
 use eid_copro::Coprocessor;
 use eid_sm::Channel;
 
@@ -45,7 +46,10 @@ fn chip_token(shared: &[u8; 32], nonce: &[u8; 8], point: &Point) -> [u8; 8]
 fn channel_under(shared: &[u8; 32], nonce: &[u8; 8]) -> Option<Channel>
     ensures { result ≡ channel_under (keys.enc_key shared.now nonce.now) (keys.mac_key shared.now nonce.now) }
 {
-    Some(Channel::new(enc_key(shared, nonce), mac_key(shared, nonce)))
+    Some(Channel::new(SessionKeys::Short {
+        enc: enc_key(shared, nonce),
+        mac: mac_key(shared, nonce),
+    }))
 }
 
 /// Selects chip authentication.

@@ -20,7 +20,7 @@ use eid_aes::Aes;
 use eid_apdu::Reply;
 use eid_base::Point;
 use eid_bits::Known;
-use eid_cmac::derive;
+use eid_cmac::{SessionKeys, derive};
 use eid_copro::Coprocessor;
 use eid_pace::keys::{enc_key, identity_of, mac_key, token};
 use eid_sm::Channel;
@@ -63,7 +63,10 @@ fn token_for(shared: &[u8; 32], point: &Point) -> [u8; 8]
 fn channel_under(shared: &[u8; 32]) -> Option<Channel>
     ensures { result ≡ channel_under (keys.enc_key shared.now) (keys.mac_key shared.now) }
 {
-    Some(Channel::new(enc_key(shared), mac_key(shared)))
+    Some(Channel::new(SessionKeys::Short {
+        enc: enc_key(shared),
+        mac: mac_key(shared),
+    }))
 }
 
 /// Begins a PACE: the password is chosen.
