@@ -22,8 +22,6 @@ use Rattle.eid_terminal.specs.declared.state.ChipCommand.{ChipCommand}
 use Rattle.eid_terminal.specs.declared.state.ChipCommand.TheVariants as chip_commands
 use Rattle.eid_terminal.specs.declared.state.RequestCommand.{RequestCommand}
 use Rattle.eid_terminal.specs.declared.state.RequestCommand.TheVariants as request_commands
-use Rattle.eid_terminal.specs.declared.state.Deed.{Deed}
-use Rattle.eid_terminal.specs.declared.state.Deed.TheVariants as deeds
 use Rattle.eid_terminal.specs.declared.state.Ending.{Ending}
 use Rattle.eid_terminal.specs.declared.state.Ending.TheVariants as endings
 use Rattle.eid_terminal.specs.declared.state.Round.{Round}
@@ -40,11 +38,10 @@ use Rattle.eid_terminal.specs.Commands.{PlainTerms, agree, announce, authenticat
 use Rattle.eid_terminal.specs.Courses.{Course, IsReading, Reached, Passes, Stops, Faults, Ends, SendsBytes}
 use Rattle.eid_terminal.specs.Exchanges.{awaiting, by_reading, counted, exchange, expecting}
 use Rattle.eid_terminal.specs.Moves.{Move, move_of}
-use Rattle.eid_terminal.specs.Moves as moves
 use Rattle.eid_terminal.specs.Pace.{Opened, after_agreement, after_mapping, after_nonce, after_selection, after_token, token_for}
 use Rattle.eid_terminal.specs.Plans.{PlainPlan, CanBeAsked}
 use Rattle.eid_terminal.specs.Requests.{after_command, after_identification, command_for, last_step, requests, sector_of}
-use Rattle.eid_terminal.specs.Terminals.{TerminalView, behind_pace, course, left_at, tells_fault, with_password}
+use Rattle.eid_terminal.specs.Terminals.{TerminalView, behind_pace, course, left_at, move_made, tells_fault, with_password}
 
 abbrev pub terms_view : Terms → PlainTerms
 terms_view t = record { password = t.password; digits = t.digits.items; template = option_map template_bytes t.template }
@@ -190,15 +187,6 @@ IsSound plan (states.Ready r) = Unit {0}
 IsSound plan (states.Ended ending) = Unit {0}
 
 -- ---- a turn
-
--- what was done, with the bytes that were written and the reply that was heard
-abbrev pub move_made : Deed → (message : List ℕ) → (heard : PlainReply) → Move
-move_made deeds.Send message heard = moves.Sends message
-move_made (deeds.Result request) message heard = moves.Gives request heard
-move_made (deeds.Passed step) message heard = moves.Passes step
-move_made deeds.Done message heard = moves.Ends
-move_made (deeds.Stopped step status) message heard = moves.Stops step status.0
-move_made (deeds.Fault step) message heard = moves.Faults step
 
 pub record TurnSeen : Type 0 where
   pub state : State

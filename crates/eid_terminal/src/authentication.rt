@@ -13,7 +13,7 @@ ghost use Rattle.eid_terminal.specs.Exchanges.{exchange, expecting};
 ghost use Rattle.eid_terminal.specs.Plans.{IsFit, PlainPlan, plan_view};
 ghost use Rattle.eid_terminal.specs.View.{Comes, Did, HasCertificate, after_terminal, certificate_at, imports_behind, seen};
 
-use crate::action::Step;
+use crate::action::{Message, Step};
 use crate::bodies::{announcement, auxiliary, key_selection};
 use crate::certificates::{certificate_at, issuer_of, last_holder};
 use crate::headers::{
@@ -22,7 +22,7 @@ use crate::headers::{
 use crate::line::send;
 use crate::plan::Plan;
 use crate::replies::{challenge_in, is_done};
-use crate::state::{Awaited, Message, Pair, Standing, TerminalCommand, Turn};
+use crate::state::{Awaited, Pair, Standing, TerminalCommand, Turn};
 use crate::turns::{failed, passed, stopped};
 use eid_apdu::Reply;
 use eid_base::Point;

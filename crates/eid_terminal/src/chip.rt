@@ -14,13 +14,13 @@ ghost use Rattle.eid_terminal.specs.Plans.{PlainPlan, plan_view};
 ghost use Rattle.eid_terminal.specs.Requests.{requests};
 ghost use Rattle.eid_terminal.specs.View.{Comes, Did, after_chip, seen};
 
-use crate::action::Step;
+use crate::action::{Message, Step};
 use crate::bodies::{authentication_data, protocol_selection};
 use crate::headers::{AUTHENTICATE, SELECT_APPLICATION, SELECT_PROTOCOL};
 use crate::line::send;
 use crate::plan::Plan;
 use crate::replies::{is_done, proof_in};
-use crate::state::{Awaited, ChipCommand, Message, Pair, Standing, Turn};
+use crate::state::{Awaited, ChipCommand, Pair, Standing, Turn};
 use crate::turns::{failed, passed, stopped};
 use eid_aes::Aes;
 use eid_apdu::Reply;

@@ -4,16 +4,14 @@ ghost use Rattle.std.specs.Option.{option_copied};
 ghost use Rattle.eid_apdu.specs.Answer.{PlainReply, plain_reply};
 ghost use Rattle.eid_terminal.specs.Plans.{IsFit, plan_view};
 ghost use Rattle.eid_terminal.specs.Terminals as terminals;
-ghost use Rattle.eid_terminal.specs.Terminals.{Goes, behind_pace, course, with_password};
-ghost use Rattle.eid_terminal.specs.View.{Comes, Did, HasPlace, Heard, IsSound, later_of, move_made, ready_course, seen, state_view, step_of, terms_view};
+ghost use Rattle.eid_terminal.specs.Terminals.{Goes, behind_pace, course, move_made, with_password};
+ghost use Rattle.eid_terminal.specs.View.{Comes, Did, HasPlace, Heard, IsSound, later_of, ready_course, seen, state_view, step_of, terms_view};
 
-use crate::action::Step;
+use crate::action::{Message, Step};
 use crate::line::receive;
 use crate::plan::Plan;
 use crate::requests::{self, last_step};
-use crate::state::{
-    Awaited, ChipCommand, Message, Ready, Round, Standing, State, Terms, Turn, Waiting,
-};
+use crate::state::{Awaited, ChipCommand, Ready, Round, Standing, State, Terms, Turn, Waiting};
 use crate::turns::stopped;
 use crate::{authentication, chip, pace};
 use arrayvec::ArrayVec;

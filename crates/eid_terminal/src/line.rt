@@ -9,7 +9,8 @@ ghost use Rattle.eid_terminal.specs.Exchanges.{counted};
 ghost use Rattle.eid_terminal.specs.Plans.{PlainPlan};
 ghost use Rattle.eid_terminal.specs.View.{Did, HasPlace, command_of, seen, waiting_course};
 
-use crate::state::{Awaited, Deed, Message, State, Turn, Waiting};
+use crate::action::{Deed, Message};
+use crate::state::{Awaited, State, Turn, Waiting};
 use eid_apdu::{Command, Reply, read_reply, write_command};
 use eid_sm::{Channel, Header, MAX_PLAIN};
 

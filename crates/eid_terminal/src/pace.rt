@@ -8,12 +8,12 @@ ghost use Rattle.eid_terminal.specs.Pace.{channel_under, decrypted_nonce, token_
 ghost use Rattle.eid_terminal.specs.Plans.{PlainPlan};
 ghost use Rattle.eid_terminal.specs.View.{Comes, Did, after_pace, opened_after, ready_course, seen, terms_view};
 
-use crate::action::Step;
+use crate::action::{Message, Step};
 use crate::bodies::{authentication_data, no_data, pace_selection};
 use crate::headers::{AUTHENTICATE, AUTHENTICATE_CHAINED, SELECT_PACE};
 use crate::line::send;
 use crate::replies::{is_pace_selected, point_in, token_in, value_in};
-use crate::state::{Awaited, Message, PaceCommand, Pair, Round, Standing, Terms, Turn};
+use crate::state::{Awaited, PaceCommand, Pair, Round, Standing, Terms, Turn};
 use crate::turns::{failed, passed, stopped};
 use arrayvec::ArrayVec;
 use eid_aes::Aes;

@@ -7,13 +7,13 @@ ghost use Rattle.eid_terminal.specs.Plans.{CanBeAsked, IsFit, PlainPlan, plan_vi
 ghost use Rattle.eid_terminal.specs.Requests.{after_command, after_identification, after_protocol, lacks_identifier, last_step, sector_of};
 ghost use Rattle.eid_terminal.specs.View.{Did, HasRequest, after_request, requests_from, seen};
 
-use crate::action::Step;
+use crate::action::{Deed, Message, Step};
 use crate::bodies::{authentication_data, protocol_selection, verification};
 use crate::headers::{AUTHENTICATE, SELECT_PROTOCOL, VERIFY};
 use crate::line::send;
 use crate::plan::{Plan, Request};
 use crate::replies::{is_success, value_in};
-use crate::state::{Awaited, Deed, Ending, Message, Ready, RequestCommand, Standing, State, Turn};
+use crate::state::{Awaited, Ending, Ready, RequestCommand, Standing, State, Turn};
 use crate::turns::stopped;
 use eid_apdu::Reply;
 use eid_bits::Known;

@@ -5,8 +5,8 @@ ghost use Rattle.eid_terminal.specs.Courses.{Passes, Gives, Stops, Faults, Ends}
 ghost use Rattle.eid_terminal.specs.Plans.{PlainPlan};
 ghost use Rattle.eid_terminal.specs.View.{Did, ready_course, seen};
 
-use crate::action::Step;
-use crate::state::{Deed, Ending, Ready, Standing, State, Turn};
+use crate::action::{Deed, Step};
+use crate::state::{Ending, Ready, Standing, State, Turn};
 use eid_apdu::Reply;
 use eid_base::Status;
 use eid_sm::Channel;
