@@ -5,7 +5,6 @@ use arrayvec::ArrayVec;
 use eid_base::{Point, Secret, Signature, Status};
 use eid_bits::Template;
 use eid_record::Password;
-use eid_sm::Channel;
 
 /// What a PACE is made with.
 #[derive(Drop)]
@@ -142,25 +141,14 @@ pub enum Ending {
     Fault { step: Step },
 }
 
-/// A command was sent, in the channel that counted it, if one is open.
-#[derive(Drop)]
-pub struct Waiting {
-    pub channel: Option<Channel>,
-    pub awaited: Awaited,
-}
-
-/// No reply is due.
-#[derive(Drop)]
-pub struct Ready {
-    pub channel: Option<Channel>,
-    pub standing: Standing,
-}
-
-/// Where a terminal stands.
+/// Where a terminal stands, apart from its channel.
 #[derive(Drop)]
 pub enum State {
-    Waiting(Waiting),
-    Ready(Ready),
+    /// A command was sent, which the channel counted where one is open.
+    Waiting(Awaited),
+    /// No reply is due.
+    Ready(Standing),
+    /// Nothing comes any more, and the channel is not used again.
     Ended(Ending),
 }
 

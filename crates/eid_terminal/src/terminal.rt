@@ -8,11 +8,12 @@ ghost use Rattle.eid_terminal.specs.View.{IsSound};
 use crate::action::{Action, Deed, Message};
 use crate::going::take_turn;
 use crate::plan::Plan;
-use crate::state::{Ending, Ready, Standing, State};
+use crate::state::{Ending, Standing, State};
 use arrayvec::ArrayVec;
 use eid_apdu::Reply;
 use eid_base::Status;
 use eid_copro::Coprocessor;
+use eid_sm::Channel;
 use std::mem;
 
 /// The action that a turn comes to, with the bytes that it wrote and the reply that it heard.
@@ -36,6 +37,7 @@ fn action_of(deed: Deed, message: Message, heard: Reply) -> Action
 #[derive(Drop)]
 pub struct Terminal {
     plan: Plan,
+    channel: Option<Channel>,
     state: State,
     // The plan can be carried out, and the places of the state are there.
     pub ghost fit: { ∥ IsFit (plan_view plan) ∥₁ },
@@ -56,10 +58,8 @@ impl Terminal {
     {
         Terminal {
             plan,
-            state: State::Ready(Ready {
-                channel: None,
-                standing: Standing::Start,
-            }),
+            channel: None,
+            state: State::Ready(Standing::Start),
         }
     }
 
@@ -111,7 +111,15 @@ impl Terminal {
             (option_copied reply.entry) (move_made result message.new.items (plain_reply heard.new)) }
     {
         let state = mem::replace(&mut self.state, State::Ended(Ending::Done));
-        let turn = take_turn(&self.plan, state, reply, copro, message, heard);
+        let turn = take_turn(
+            &self.plan,
+            &mut self.channel,
+            state,
+            reply,
+            copro,
+            message,
+            heard,
+        );
         self.state = turn.state;
         turn.deed
     }
