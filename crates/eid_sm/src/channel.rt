@@ -94,7 +94,7 @@ impl Channel {
 
     /// Writes the protected form of a reply, at the next counter, over what `out` held.
     pub fn seal(&mut self, reply: &Reply, out: &mut ArrayVec<u8, MAX_MESSAGE>)
-        requires { array_vec_len reply.now.content ≤ MAX_PLAIN }
+        requires { array_vec_len reply.now.content ≤ 2048 }
         ensures written { out.new.items ≡ sealed self.old.keys (next_counter self.old.counter) (plain_reply reply.now) }
         ensures readable { IsSealed self.old.keys (next_counter self.old.counter) out.new.items (plain_reply reply.now) }
         ensures counted { self.new ≡ advanced self.old }
@@ -113,7 +113,7 @@ impl Channel {
     /// length in one byte up to 256, and the greatest expected length outside, short where it can be. The data
     /// objects are made in a buffer of their own, since the command's length field before them says their length.
     pub fn wrap(&mut self, c: &Command<'_>, out: &mut ArrayVec<u8, MAX_MESSAGE>)
-        requires body { length c.now.body.now ≤ MAX_PLAIN }
+        requires body { length c.now.body.now ≤ 2048 }
         requires expected { c.now.ne ≤ 65536 }
         requires class { IsPlainClass c.now.cla }
         ensures written { out.new.items ≡ written (written_command self.old.keys (next_counter self.old.counter) (plain_command c.now)) }
