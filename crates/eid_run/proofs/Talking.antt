@@ -31,15 +31,16 @@ use Rattle.eid_terminal.specs.Replies.{success}
 use Rattle.eid_terminal.specs.Terminals.{Goes, TerminalView, begun, course, left_at, move_seen}
 use Rattle.eid_terminal.proofs.Within.{at_most}
 use Rattle.eid_run.specs.Conversations.{Exchange, IsEnd, Talks, Told, Passed, Result, command_of, reply_of, IsDue}
-use Rattle.eid_run.specs.Lines.{DidLine, IsLine, IsRunSoFar, Keeps}
+use Rattle.eid_run.specs.Lines.{DidLine, IsLine, Keeps}
 use Rattle.eid_run.specs.Report.{report, stop_line, told_line, told_lines}
 use Rattle.eid_run.specs.Runs.{Did, LineEffect, Outside, journal, line_for}
 use Rattle.eid_run.specs.Sessions.{AnswersWell, AreReplies, Conversed, DidPartOfSession, DidSession, command_line, replied, replies_in, replies_to, session_lines}
 use Rattle.eid_run.specs.Tallies.{CountedSession, IsTallyOf, is_answered, is_refused, no_results, tally_more, tally_reply}
 use Rattle.eid_run.specs.declared.tally.Tally.{Tally}
-use Rattle.eid_run.specs.Talk.{BrokeTurn, ChipDid, DidTurn, IsLeftAlone, IsTalkSoFar, NoTurn, PartOfTurn, Standing, turn_line, turns, standing, written_so_far}
+use Rattle.eid_run.specs.Talk.{BrokeTurn, ChipDid, DidTurn, IsLeftAlone, NoTurn, PartOfTurn, Standing, turn_line, standing}
 use Rattle.eid_run.specs.Sinks.{untold}
 use Rattle.eid_run.proofs.Conversing.{here, reached_of, talks_on, talks_turn}
+use Rattle.eid_run.proofs.SoFar.{IsRunSoFar, IsTalkSoFar, turns, written_so_far}
 use Rattle.eid_run.proofs.Running.{ran_happened, ran_lines, ran_more}
 
 -- ---- lists
@@ -263,11 +264,9 @@ no_lines opening start at log fits same dark = record {
   happened = [];
   fits = fits;
   legal = tt;
-  steady = λ still. tt;
+  counts = ap (λ (d : Device). d.cuts) same;
+  exact = λ told. let cuts = ap (λ (d : Device). d.cuts) same in omega (arith, cuts);
   unplanned = λ told none unplanned. (tt, ap (λ (d : Device). d.planned) same ∙ none);
-  later = omega (arith, ap (λ (d : Device). d.cuts) same);
-  counted = λ told. omega (arith, ap (λ (d : Device). d.cuts) same);
-  rose = rw same (omega arith);
   strikes = λ told none few. (tt, ap (λ (d : Device). d.planned) same ∙ none);
   same_told = ap (λ (d : Device). d.told) same;
   dark = dark;

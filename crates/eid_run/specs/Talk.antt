@@ -19,7 +19,7 @@ use Rattle.eid_terminal.specs.Moves as moves
 use Rattle.eid_terminal.specs.Plans.{PlainPlan}
 use Rattle.eid_terminal.specs.Terminals.{Goes, TerminalView, course, move_seen}
 use Rattle.eid_run.specs.Conversations.{Exchange, IsDue, IsEnd, Told, Talks, reply_of}
-use Rattle.eid_run.specs.Lines.{IsLine, IsRunSoFar, Keeps}
+use Rattle.eid_run.specs.Lines.{IsLine, Keeps}
 use Rattle.eid_run.specs.Report.{asked_line, fault_line, passed_line, stop_line, stopped_line, told_lines}
 use Rattle.eid_run.specs.Runs.{Did}
 use Rattle.eid_run.specs.Sinks.{untold}
@@ -44,10 +44,6 @@ abbrev pub due_bytes : Due → List ℕ → Option (List ℕ)
 due_bytes Nothing sent = None
 due_bytes Sent sent = Some sent
 due_bytes NoBytes sent = Some []
-
--- what a terminal that told this has had written, once it stands there
-abbrev pub written_so_far : PlainPlan → List Told → TerminalView → List ℕ
-written_so_far plan told terminal = told_lines plan told ++ (if terminal.ended then stop_line terminal.course else [])
 
 -- ---- one turn
 
@@ -126,38 +122,3 @@ pub record NoTurn (old new : Standing) : Type 0 where
 
 abbrev pub BrokeTurn : List Request → Standing → Standing → Type 0
 BrokeTurn requests old new = NoTurn old new ⊎ PartOfTurn requests old new
-
--- what each turn leaves
-pub record KeepsOn (old new : Standing) : Type 0 where
-  pub sound : IsSound new.scene
-  pub told : new.copro.told ≡ old.copro.told
-
--- ---- the session so far
-
--- the turns that it took: in each a command was sent, or something told
-abbrev pub turns : List Exchange → Option Exchange → List Told → ℕ
-turns exchanges pending told = length (exchanges ++ option_to_list pending) + length told
-
--- the answer that came of bytes, where there is one, can be sent
-abbrev pub CameWell : Came → Type 0
-CameWell Silence = Unit {0}
-CameWell (Answer plain finished rule reply sent) = CanBeSent reply
-CameWell (Loss plain finished) = Unit {0}
-
--- from where it began to where it stands
-pub record IsTalkSoFar (plan : PlainPlan) (opening : FullRecord) (start : Scene) (first now : Standing) (taken : ℕ) : Type 0 where
-  pub asks : List Ask
-  pub exchanges : List Exchange
-  pub told : List Told
-  pub pending : Option Exchange
-  pub talks : Talks (course plan) asks exchanges told now.terminal.course
-  pub sends : (e : Exchange) → pending ≡ Some e → IsDue now.terminal.course e.command
-  pub due_is : now.due ≡ option_map reply_of pending
-  pub waits : now.terminal.waits ≡ is_some pending
-  pub logged : now.copro.log ≡ first.copro.log ++ asks
-  pub run : IsRunSoFar opening start now.scene first.log now.log (session_lines (exchanges ++ option_to_list pending)) untold untold
-  pub replies : AreReplies run.happened (exchanges ++ option_to_list pending)
-  pub written : IsTrue first.sink.tells → Grew first.sink.written now.sink.written (written_so_far plan told now.terminal)
-  pub counted : now.terminal.ended ≡ false → taken ≡ turns exchanges pending told
-  pub tallied : IsTallyOf told now.tally
-  pub over : now.terminal.ended ≡ true → IsEnd now.terminal.course × (pending ≡ None)

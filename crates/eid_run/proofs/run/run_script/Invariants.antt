@@ -4,7 +4,7 @@ use Rattle.eid_record.specs.Plain.{FullRecord}
 use Rattle.eid_store.specs.Stands.{stands}
 use Rattle.eid_chip.specs.Fits.{IsSound, scene}
 use Rattle.eid_script.specs.Scripts.{plain_line}
-use Rattle.eid_run.specs.Lines.{IsRunSoFar}
+use Rattle.eid_run.proofs.SoFar.{IsRunSoFar}
 use Rattle.eid_run.proofs.run.run_script.Given as goal
 
 -- the lines so far were carried out

@@ -9,9 +9,10 @@ use Rattle.eid_terminal.specs.Plans.{plan_view}
 use Rattle.eid_terminal.specs.Seen.{terminal_view}
 use Rattle.eid_terminal.specs.Terminals.{TerminalView, begun}
 use Rattle.eid_run.specs.Runs.{outside}
-use Rattle.eid_run.specs.Talk.{BrokeTurn, DidTurn, IsTalkSoFar, due_bytes, standing}
+use Rattle.eid_run.specs.Talk.{BrokeTurn, DidTurn, due_bytes, standing}
 use Rattle.eid_run.specs.Tallies.{no_results}
 use Rattle.eid_run.specs.declared.tally.Tally.{Tally}
+use Rattle.eid_run.proofs.SoFar.{IsTalkSoFar}
 use Rattle.eid_run.proofs.Running.{some_of}
 use Rattle.eid_run.proofs.Talking.{some_mapped, talk_begun, talk_broke, talk_ended, talk_more, talk_untaken, too_many}
 use Rattle.eid_run.proofs.session.converse.Goals as goal

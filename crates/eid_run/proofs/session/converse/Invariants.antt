@@ -6,8 +6,9 @@ use Rattle.eid_chip.specs.Fits.{IsSound, scene}
 use Rattle.eid_terminal.specs.Plans.{plan_view}
 use Rattle.eid_terminal.specs.Seen.{terminal_view}
 use Rattle.eid_terminal.specs.Terminals.{begun}
-use Rattle.eid_run.specs.Talk.{IsTalkSoFar, due_bytes, standing}
+use Rattle.eid_run.specs.Talk.{due_bytes, standing}
 use Rattle.eid_run.specs.Tallies.{no_results}
+use Rattle.eid_run.proofs.SoFar.{IsTalkSoFar}
 use Rattle.eid_run.proofs.session.converse.Given as goal
 
 -- the session so far, which has not ended
