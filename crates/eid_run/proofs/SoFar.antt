@@ -13,9 +13,10 @@ use Rattle.eid_terminal.specs.Plans.{PlainPlan}
 use Rattle.eid_terminal.specs.Terminals.{TerminalView, course}
 use Rattle.eid_run.specs.Conversations.{Exchange, IsDue, IsEnd, Told, Talks, reply_of}
 use Rattle.eid_run.specs.Report.{stop_line, told_lines}
-use Rattle.eid_run.specs.Runs.{LineEffect, lines_of, journal, has_plan, losses, Counts, CutsAsPlanned, stretch, IsAhead}
+use Rattle.eid_step.specs.Effects.{LineEffect}
+use Rattle.eid_step.specs.Sinks.{untold}
+use Rattle.eid_run.specs.Runs.{lines_of, journal, has_plan, losses, Counts, CutsAsPlanned, stretch, IsAhead}
 use Rattle.eid_run.specs.Sessions.{AreReplies, session_lines}
-use Rattle.eid_run.specs.Sinks.{untold}
 use Rattle.eid_run.specs.Talk.{Standing}
 use Rattle.eid_run.specs.Tallies.{IsTallyOf}
 

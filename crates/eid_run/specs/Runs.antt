@@ -2,34 +2,19 @@
 use Rattle.std.specs.Prelude.{◌≡◌, ℕ, ◌+◌, ◌-◌, ◌*◌, ◌^◌, min, ◌<◌, ◌≤◌, ◌==◌, ◌||◌, Bool, true, false, IsTrue, List, [], ◌∷◌, ◌++◌, length, slice_index, Option, Some, None, option_map, if◌then◌else◌}
 use Rattle.eid_base.specs.Faults.{Rose}
 use Rattle.eid_base.specs.Seen.{SinkSeen, IsFront, Grew}
-use Rattle.eid_cells.specs.declared.tear.Tear.{Tear}
 use Rattle.eid_cells.specs.Device.{Device}
 use Rattle.eid_record.specs.Plain.{FullRecord}
 use Rattle.eid_store.specs.Cost.{once}
 use Rattle.eid_store.specs.Stands.{stands}
 use Rattle.eid_copro.specs.Seen.{CoproSeen}
 use Rattle.eid_copro.specs.Told.{Source, AnswersFrom}
-use Rattle.eid_model.specs.Moments.{Event, PoweredOn, PoweredOff, Received, PlainMoment, on, asked, lost, AreSteady}
+use Rattle.eid_model.specs.Moments.{PlainMoment, on, asked, lost, AreSteady}
 use Rattle.eid_model.specs.Legal.{AreLegal, IsOnlyJournal}
 use Rattle.eid_model.specs.Ledger.{kept, pending, MayHold}
 use Rattle.eid_model.specs.Trace.{text, trace}
 use Rattle.eid_chip.specs.Commits.{LEAST_WRITES, MOST_WRITES, MOST_MOUNTING}
-use Rattle.eid_script.specs.Scripts.{ScriptLine, OnLine, OffLine, ApduLine, CutLine}
-
--- What a line made: a moment, or the plan of a cut.
-pub data LineEffect : Type 0 where
-  Did : PlainMoment → LineEffect
-  Planned : ℕ → Tear → LineEffect
-
--- the line that asks for what came
-abbrev pub line_for : Event → ScriptLine
-line_for (PoweredOn found) = OnLine
-line_for PoweredOff = OffLine
-line_for (Received bytes) = ApduLine bytes
-
-abbrev pub line_of : LineEffect → ScriptLine
-line_of (Did m) = line_for m.input
-line_of (Planned write tear) = CutLine write tear
+use Rattle.eid_script.specs.Scripts.{ScriptLine}
+use Rattle.eid_step.specs.Effects.{LineEffect, Did, Planned, line_of, CountedBy, is_power_on}
 
 -- the lines that were carried out, the first one first; what happened has the newest first
 abbrev pub lines_of : List LineEffect → List ScriptLine
@@ -56,11 +41,6 @@ abbrev pub losses : List PlainMoment → ℕ
 losses [] = 0
 losses (m ∷ before) = once (lost m before) + losses before
 
--- the count of cuts behind a line: it rose where the power was cut in it, and stays where it was not
-abbrev pub CountedBy : (cut : Bool) → (before now : ℕ) → Type 0
-CountedBy true before now = (before ≤ now) × Rose before now
-CountedBy false before now = now ≡ before
-
 -- The count of cuts from the entry to the exit, line by line: it rose in each line in which the power was cut, and stays in
 -- any other.
 abbrev pub Counts : (entry : ℕ) → List LineEffect → (exit : ℕ) → Type 0
@@ -77,11 +57,6 @@ pub record Stretch : Type 0 where
   pub commits : ℕ
   pub power_ons : ℕ
   pub cuts : ℕ
-
-abbrev pub is_power_on : Event → Bool
-is_power_on (PoweredOn found) = true
-is_power_on PoweredOff = false
-is_power_on (Received bytes) = false
 
 -- one moment more, in which the power was cut or not; behind a cut only further cuts count
 abbrev pub longer : (cut : Bool) → PlainMoment → Stretch → Stretch

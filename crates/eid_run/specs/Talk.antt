@@ -1,31 +1,30 @@
 -- Inside: cited by private contracts alone.
--- A session so far, and what one turn of it does.
-use Rattle.std.specs.Prelude.{◌≡◌, ◌⊎◌, ℕ, ◌+◌, true, false, List, [], ◌++◌, length, Option, Some, None, IsTrue, is_some, option_map, if◌then◌else◌}
-use Rattle.std.specs.Option.{option_to_list}
+-- What one turn of a session does.
+use Rattle.std.specs.Prelude.{◌≡◌, ◌⊎◌, ℕ, List, [], Option, Some, None, IsTrue}
 use Rattle.eid_base.specs.Seen.{SinkSeen, Grew, GrewByPart}
 use Rattle.std.specs.List.{slice_get}
-use Rattle.eid_chip.specs.Fits.{Came, Silence, Answer, Loss, Scene, IsSound}
+use Rattle.eid_chip.specs.Fits.{Came, Silence, Answer, Loss, Scene, scene}
 use Rattle.eid_model.specs.Moments.{PlainMoment}
 use Rattle.eid_copro.specs.Seen.{CoproSeen}
 use Rattle.eid_copro.specs.Told.{AnswersFrom, KeepsTo, Source}
 use Rattle.eid_copro.specs.Told as told
 use Rattle.eid_copro.specs.declared.ask.Ask.{Ask}
-use Rattle.eid_record.specs.Plain.{FullRecord}
 use Rattle.eid_script.specs.Scripts.{ApduLine}
 use Rattle.eid_terminal.specs.declared.action.Action.{Action}
 use Rattle.eid_terminal.specs.declared.plan.Request.{Request}
 use Rattle.eid_terminal.specs.Moves.{Move}
 use Rattle.eid_terminal.specs.Moves as moves
-use Rattle.eid_terminal.specs.Plans.{PlainPlan}
-use Rattle.eid_terminal.specs.Terminals.{Goes, TerminalView, course, move_seen}
-use Rattle.eid_run.specs.Conversations.{Exchange, IsDue, IsEnd, Told, Talks, reply_of}
-use Rattle.eid_run.specs.Lines.{IsLine, Keeps}
-use Rattle.eid_run.specs.Report.{asked_line, fault_line, passed_line, stop_line, stopped_line, told_lines}
-use Rattle.eid_run.specs.Runs.{Did}
-use Rattle.eid_run.specs.Sinks.{untold}
-use Rattle.eid_run.specs.Sessions.{AnswersWell, AreReplies, CanBeSent, replied, session_lines}
-use Rattle.eid_run.specs.Tallies.{IsTallyOf, tally_more}
+use Rattle.eid_terminal.specs.Terminals.{Goes, TerminalView, move_seen}
+use Rattle.eid_step.specs.Effects.{Did}
+use Rattle.eid_step.specs.Lines.{IsLine, Keeps}
+use Rattle.eid_step.specs.Sendable.{AnswersWell}
+use Rattle.eid_run.specs.Report.{asked_line, fault_line, passed_line, stopped_line}
+use Rattle.eid_run.specs.Sessions.{replied}
+use Rattle.eid_run.specs.Tallies.{tally_more}
 use Rattle.eid_run.specs.declared.tally.Tally.{Tally}
+use Rattle.eid_cells.specs.Device.{Device}
+use Rattle.eid_terminal.specs.Seen.{terminal_view}
+use Rattle.eid_run.specs.declared.session.Conversation.{Conversation}
 use Rattle.eid_run.specs.declared.session.Due.{Due}
 use Rattle.eid_run.specs.declared.session.Due.TheVariants.{Nothing, Sent, NoBytes}
 
@@ -93,6 +92,11 @@ pub record Standing : Type 0 where
 abbrev pub standing : Scene → List Ask → CoproSeen → TerminalView → Option (List ℕ) → SinkSeen → Tally → Standing
 standing scene log copro terminal due sink tally =
     record { scene = scene; log = log; copro = copro; terminal = terminal; due = due; sink = sink; tally = tally }
+
+-- where a conversation stands over this device
+abbrev pub stands_at : Conversation → Device → List ℕ → List Ask → CoproSeen → SinkSeen → Standing
+stands_at c device cells log copro sink =
+    standing (scene c.stepper.chip device cells) log copro (terminal_view c.terminal) (due_bytes c.due c.stepper.exchange.sent.items) sink c.tally
 
 -- the terminal took its turn, the chip did what it was asked to, and the turn was told and counted
 pub record DidTurn (requests : List Request) (old new : Standing) : Type 0 where
