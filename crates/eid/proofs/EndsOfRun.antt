@@ -18,7 +18,8 @@ use Rattle.eid_cells.specs.Device.{Device}
 use Rattle.eid_model.specs.Moments.{asked}
 use Rattle.eid_model.specs.Ledger.{kept, pending, MayHold}
 use Rattle.eid_script.specs.Scripts.{ScriptLine}
-use Rattle.eid_run.specs.Runs.{LineEffect, line_of, lines_of, journal, outside, resting, DidLines, DidSomeLines}
+use Rattle.eid_step.specs.Effects.{LineEffect, line_of}
+use Rattle.eid_run.specs.Runs.{lines_of, journal, outside, resting, DidLines, DidSomeLines}
 use Rattle.eid_run.specs.Talk.{HasSource}
 use Rattle.eid_run.proofs.Meeting.{answers_from}
 use Rattle.eid.specs.declared.exit.Exit.{Exit}

@@ -18,7 +18,7 @@ use Rattle.eid_run.specs.Attempts.{Met, Tried}
 use Rattle.eid_run.specs.Big.{AreSessions, AreTalks, IsSession, PlainCounts, Talk, counts_of, nothing, together}
 use Rattle.eid_run.specs.Meetings.{Coprocessors, inverted, meeting}
 use Rattle.eid_run.specs.Runs.{journal, outside, resting}
-use Rattle.eid_run.specs.Sinks.{untold}
+use Rattle.eid_step.specs.Sinks.{untold}
 use Rattle.eid_run.specs.Tallies.{CountedSession, no_results}
 use Rattle.eid_run.specs.declared.big.Left.{Left}
 use Rattle.eid_run.specs.declared.tally.Tally.{Tally}

@@ -12,8 +12,10 @@ use Rattle.eid_record.specs.Plain.{FullRecord}
 use Rattle.eid_script.specs.Scripts.{ScriptLine, OnLine, ApduLine}
 use Rattle.eid_run.specs.Conversations.{Exchange, reply_of}
 use Rattle.eid_run.specs.Promised.{HasPoint, PointsDiffer}
-use Rattle.eid_run.specs.Runs.{Did, Planned, LineEffect, journal, line_for, line_of, lines_of}
-use Rattle.eid_run.specs.Sessions.{AnswersWell, command_line, replied, replies_in, replies_to, session_lines}
+use Rattle.eid_step.specs.Effects.{Did, Planned, LineEffect, line_for, line_of}
+use Rattle.eid_run.specs.Runs.{journal, lines_of}
+use Rattle.eid_step.specs.Sendable.{AnswersWell}
+use Rattle.eid_run.specs.Sessions.{command_line, replied, replies_in, replies_to, session_lines}
 
 -- What is asked of a session beside: the coprocessors answered each question as the model does, and with a point where one
 -- was asked for.

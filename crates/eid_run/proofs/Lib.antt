@@ -1,3 +1,4 @@
+pub mod SoFar
 pub mod Running
 pub mod Conversing
 pub mod Talking

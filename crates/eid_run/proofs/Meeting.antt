@@ -10,7 +10,8 @@ use Rattle.eid_model.specs.Moments.{PlainMoment, asked}
 use Rattle.eid_script.specs.Scripts.{ApduLine, CutLine, OffLine, OnLine, ScriptLine}
 use Rattle.eid_run.specs.Conversations.{Exchange}
 use Rattle.eid_run.specs.Meetings.{Coprocessors, Meeting, MetWhole, inverted}
-use Rattle.eid_run.specs.Runs.{Did, LineEffect, Planned, has_plan, journal, line_of, lines_of, outside, resting}
+use Rattle.eid_step.specs.Effects.{Did, LineEffect, Planned, line_of}
+use Rattle.eid_run.specs.Runs.{has_plan, journal, lines_of, outside, resting}
 use Rattle.eid_run.specs.Sessions.{DidSession, command_line, session_lines}
 use Rattle.eid_run.specs.Talk.{HasSource}
 

@@ -40,8 +40,10 @@ use Rattle.eid_run.specs.Honest.{AreAccepted, IsAccepted, IsCertified, IsCertifi
 use Rattle.eid_run.specs.Promised.{FoundPoints, HasPoint, PointsDiffer, asking, authentications, first_pace, promised, promised_report, promised_results, terminal_of}
 use Rattle.eid_run.specs.Report.{report}
 use Rattle.eid_run.specs.Meetings.{Meeting, MetWhole, inverted}
-use Rattle.eid_run.specs.Runs.{LineEffect, journal, lines_of}
-use Rattle.eid_run.specs.Sessions.{AnswersWell, replies_in, session_lines}
+use Rattle.eid_step.specs.Effects.{LineEffect}
+use Rattle.eid_run.specs.Runs.{journal, lines_of}
+use Rattle.eid_step.specs.Sendable.{AnswersWell}
+use Rattle.eid_run.specs.Sessions.{replies_in, session_lines}
 use Rattle.eid_run.proofs.Along.{AtCourse, IsPaced, Way}
 use Rattle.eid_run.proofs.Authenticated.{certificates_and_terminal}
 use Rattle.eid_run.proofs.Certified.{all_advanced}

@@ -1,351 +1,29 @@
--- What a line made, and runs with one line more.
-use Rattle.std.proofs.Common.{min, ◌≡◌, ◌≢◌, ℕ, ◌+◌, ◌-◌, ◌*◌, ◌^◌, ◌<◌, ◌≤◌, Bool, true, false, ◌==◌, ◌||◌, IsTrue, List, [], ◌∷◌, ◌++◌, length, take, drop, get_or, map, Option, Some, None, Result, Ok, Err, refl, sym, ap, ◌∙◌, subst, append_assoc, append-nil, length-append, arith, inl, inr}
-use Rattle.std.specs.Prelude.{IsSome, OnOk, OnErr, is_some, is_none, nat_le, nat_lt, option_map, slice_index, if◌then◌else◌}
+-- Runs with one line more.
+use Rattle.std.proofs.Common.{min, ◌≡◌, ℕ, suc, ◌+◌, ◌-◌, ◌^◌, ◌<◌, ◌≤◌, Bool, true, false, ◌==◌, ◌||◌, IsTrue, List, [], ◌∷◌, ◌++◌, length, take, drop, get_or, map, Option, Some, None, refl, sym, ap, ◌∙◌, subst, append_assoc, append-nil, arith, inl, inr}
+use Rattle.std.specs.Prelude.{IsSome, is_some, is_none, nat_lt, option_map, slice_index, if◌then◌else◌}
 use Rattle.std.proofs.lemmas.Bool.{eqb-true}
 use Rattle.std.proofs.lemmas.Bool.Decides.{nat_tests}
-use Rattle.std.proofs.lemmas.List.{take_more, map-append, take-append-drop, drop_at}
+use Rattle.std.proofs.lemmas.List.{take_more, map-append, take-append-drop}
 use Rattle.eid_base.specs.Faults.{Rose}
-use Rattle.eid_base.specs.Seen.{SinkSeen, Grew, GrewByPart}
-use Rattle.eid_cells.specs.Device.{Device, planned_at}
-use Rattle.eid_cells.specs.declared.tear.Tear.{Tear}
+use Rattle.eid_base.specs.Seen.{SinkSeen, Grew}
+use Rattle.eid_cells.specs.Device.{Device}
 use Rattle.eid_record.specs.Plain.{FullRecord, PlainEffect}
-use Rattle.eid_store.specs.declared.durable.MountError.{MountError}
-use Rattle.eid_store.specs.declared.durable.MountError.TheVariants.{Cut, BadImage}
-use Rattle.eid_store.specs.Durable.{Mounts}
-use Rattle.eid_store.proofs.Laws.{powered, refitting}
-use Rattle.eid_copro.specs.Seen.{CoproSeen}
+use Rattle.eid_store.proofs.Laws.{powered}
 use Rattle.eid_copro.specs.declared.ask.Ask.{Ask}
-use Rattle.eid_model.specs.Legal.{silent}
-use Rattle.eid_model.specs.Ledger.{kept, MayHold}
-use Rattle.eid_model.specs.Moments.{Event, PoweredOn, PoweredOff, Received, PlainMoment, on, asked, lost}
+use Rattle.eid_model.specs.Ledger.{MayHold}
+use Rattle.eid_model.specs.Moments.{Event, PoweredOn, PoweredOff, Received, PlainMoment, on, asked, lost, AreSteady}
 use Rattle.eid_model.specs.Trace.{text, trace}
 use Rattle.eid_model.proofs.Journals.{only_journal}
-use Rattle.eid_chip.specs.Commits.{LEAST_WRITES, MOST_WRITES, MOST_MOUNTING, WasCutBehind}
 use Rattle.eid_store.specs.Cost.{once}
-use Rattle.eid_chip.specs.Fits.{Scene, scene, Fits, Follows, Handles, IsSound, IsSoundRunning, Came, Silence, Answer, Loss, CameOver, moment_of, is_silence, leaves_off, found, is_off}
+use Rattle.eid_chip.specs.Fits.{Scene, scene, Fits, IsSoundRunning, found, is_off}
 use Rattle.eid_chip.specs.States.{ChipView, RunningView}
 use Rattle.eid_script.specs.declared.script.Line.{Line}
-use Rattle.eid_script.specs.Scripts.{ScriptLine, OnLine, OffLine, ApduLine, CutLine, plain_line}
-use Rattle.eid_run.specs.Runs.{LineEffect, Did, Planned, line_for, journal, is_plan, line_of, IsFrontOfTrace, RanLines, DidSomeLines, Outside, losses, Stretch, stretch, longer, is_power_on, IsInStretch}
-use Rattle.eid_run.specs.Lines.{is_cut_line, text_of, was_cut, planned_by, Spends, SpendsBy, IsAhead, IsAheadIn, IsLine, Keeps, DidLine, BrokeOffLine, IsRunSoFar}
-
--- ---- a power-on
-
--- a plan that names none of these writes names a later one
-not_within : (planned writes : ℕ) → 0 < planned → ((1 ≤ planned) × (planned ≤ writes) → ⊥) → writes < planned
-not_within planned writes some other = by (nat_le planned writes) refl where
-  by : (b : Bool) → nat_le planned writes ≡ b → writes < planned
-  by true is = absurd (other (some, let le : planned ≤ writes = grind (arith, nat_tests) in le))
-  by false is = grind (arith, nat_tests)
-
-found_lost : (r : Result ℕ MountError) (powered : Bool) → r ≢ Err BadImage → was_cut powered (Did (silent (PoweredOn (found r)))) ≡ true → r ≡ Err Cut
-found_lost (Ok number) powered good lost = absurd (cc)
-found_lost (Err Cut) powered good lost = refl
-found_lost (Err BadImage) powered good lost = absurd (good refl)
-
-found_kept : (r : Result ℕ MountError) (powered : Bool) → r ≢ Err BadImage → r ≢ Err Cut → was_cut powered (Did (silent (PoweredOn (found r)))) ≡ false
-found_kept (Ok number) powered good kept = refl
-found_kept (Err Cut) powered good kept = absurd (kept refl)
-found_kept (Err BadImage) powered good kept = absurd (good refl)
-
--- the writes that a power-on takes from a plan
-on_spends : (powered : Bool) (r : Result ℕ MountError) (writes : ℕ) (old new : Device) → r ≢ Err BadImage → writes ≤ MOST_MOUNTING → Mounts writes (record old { has_power = true }) new r → IsTrue old.told
-    → Spends old.planned new.planned 0 1 (was_cut powered (Did (silent (PoweredOn (found r)))))
-on_spends powered (Ok number) writes old new good few device told =
-    let planned : new.planned ≡ old.planned - writes = ap (λ (d : Device). d.planned) device.mounted in
-    let spared = device.spared told in
-    let beyond : 0 < old.planned → writes < old.planned = λ some. not_within old.planned writes some spared in
-    record {
-      unplanned = λ none. (omega (arith, planned, none), refl);
-      ahead = λ some kept. let over = beyond some in (omega (arith, planned, over), omega (arith, planned, over), omega (arith, planned, over, few));
-      strikes = λ some struck. absurd (cc);
-    }
-on_spends powered (Err Cut) writes old new good few device told =
-    let cut = device.cut refl in
-    let struck = device.struck told refl in
-    record {
-      unplanned = λ none. absurd (omega (arith, struck.0, none));
-      ahead = λ some kept. absurd (cc);
-      strikes = λ some is. (cut.planned, omega (arith, some), omega (arith, struck.1, few));
-    }
-on_spends powered (Err BadImage) writes old new good few device told = absurd (good refl)
-
--- a power-on, as the chip says it
-pub line_on : (old new : Scene) (r : Result ℕ MountError) (writes : ℕ) (log : List Ask) → r ≢ Err BadImage → writes ≤ MOST_MOUNTING → Follows old new (silent (PoweredOn (found r))) → Mounts writes (record old.device { has_power = true }) new.device r
-    → IsLine old new log log OnLine (Did (silent (PoweredOn (found r))))
-line_on old new r writes log good few follows device = record {
-  step = follows;
-  logged = sym (append-nil log);
-  carried = refl;
-  cause = λ lost. (device.cut (found_lost r (is_some old.chip.running) good lost)).rose;
-  unplanned = λ told none. found_kept r (is_some old.chip.running) good (λ is. let struck = device.struck told is in absurd (omega (arith, struck.0, none)));
-  spends = λ told. on_spends (is_some old.chip.running) r writes old.device new.device good few device told;
-}
-
-pub keeps_on : (old new : Scene) (r : Result ℕ MountError) (writes : ℕ) → r ≢ Err BadImage → Mounts writes (record old.device { has_power = true }) new.device r → IsSound new → OnErr r (new.chip.running ≡ None)
-    → slice_index new.cells 0 ≡ slice_index old.cells 0 → (OnOk r (is_off new.chip ≡ false)) → Keeps old new OnLine
-keeps_on old new (Ok number) writes good device sound off layout alive = record {
-  sound = sound;
-  dark = λ before is. absurd (cc);
-  layout = layout;
-  told = ap (λ (d : Device). d.told) device.mounted;
-  later = omega (arith, ap (λ (d : Device). d.cuts) device.mounted);
-  counted = λ told. omega (arith, ap (λ (d : Device). d.cuts) device.mounted);
-  unplanned = λ told plain none. ap (λ (d : Device). d.planned) device.mounted ∙ rw none (omega arith);
-}
-keeps_on old new (Err Cut) writes good device sound off layout alive =
-    let cut = device.cut refl in
-    record {
-      sound = sound;
-      dark = λ before is. cut.power;
-      layout = layout;
-      told = cut.told;
-      later = cut.never_falls;
-      counted = λ told. omega (arith, cut.by_one told);
-      unplanned = λ told plain none. cut.planned;
-    }
-keeps_on old new (Err BadImage) writes good device sound off layout alive = absurd (good refl)
-
--- ---- a power-off
-
--- a plan that stays as it is
-stays : (before now : ℕ) → now ≡ before → Spends before now 0 0 false
-stays before now same = record {
-  unplanned = λ none. (omega (arith, same, none), refl);
-  ahead = λ some kept. (omega (arith, same, some), omega (arith, same), omega (arith, same));
-  strikes = λ some struck. absurd (cc);
-}
-
-pub line_off : (old new : Scene) (log : List Ask) → Follows old new (silent PoweredOff) → new.device ≡ record old.device { has_power = false } → IsLine old new log log OffLine (Did (silent PoweredOff))
-line_off old new log follows device = record {
-  step = follows;
-  logged = sym (append-nil log);
-  carried = refl;
-  cause = λ lost. absurd (cc);
-  unplanned = λ told none. refl;
-  spends = λ told. stays old.device.planned new.device.planned (ap (λ (d : Device). d.planned) device);
-}
-
-pub keeps_off : (old new : Scene) → new.chip.running ≡ None → new.cells ≡ old.cells → new.device ≡ record old.device { has_power = false } → Keeps old new OffLine
-keeps_off old new off cells device = record {
-  sound = subst (λ (l : Option RunningView). IsSoundRunning l new.device new.cells) (sym off) tt;
-  dark = λ before is. ap (λ (d : Device). d.has_power) device;
-  layout = ap (λ (c : List ℕ). slice_index c 0) cells;
-  told = ap (λ (d : Device). d.told) device;
-  later = omega (arith, ap (λ (d : Device). d.cuts) device);
-  counted = λ told. omega (arith, ap (λ (d : Device). d.cuts) device);
-  unplanned = λ told plain none. ap (λ (d : Device). d.planned) device ∙ none;
-}
-
--- ---- a command
-
-came_input : (bytes : List ℕ) (asks : List Ask) (came : Came) → line_for (moment_of bytes asks came).input ≡ ApduLine bytes
-came_input bytes asks Silence = refl
-came_input bytes asks (Answer plain finished rule reply sent) = refl
-came_input bytes asks (Loss plain finished) = refl
-
--- the moment has the questions that were put
-came_asks : (bytes : List ℕ) (asks : List Ask) (came : Came) → (is_silence came ≡ true → asks ≡ []) → (moment_of bytes asks came).asks ≡ asks
-came_asks bytes asks Silence none = sym (none refl)
-came_asks bytes asks (Answer plain finished rule reply sent) none = refl
-came_asks bytes asks (Loss plain finished) none = refl
-
-rose_behind : (finished : ℕ) (old new : Device) → WasCutBehind finished old new → Rose old.cuts new.cuts
-rose_behind finished old new behind = subst (λ (n : ℕ). Rose n new.cuts) (ap (λ (d : Device). d.cuts) behind.wrote.device) behind.cut.rose
-
-came_cause : (powered : Bool) (bytes : List ℕ) (asks : List Ask) (came : Came) (old new : Device) → is_silence came ≡ true → powered ≡ false → was_cut powered (Did (moment_of bytes asks came)) ≡ true → Rose old.cuts new.cuts
-came_cause powered bytes asks came old new silent off lost = absurd (by came silent lost) where
-  by : (c : Came) → is_silence c ≡ true → was_cut powered (Did (moment_of bytes asks c)) ≡ true → ⊥
-  by Silence s l = let gone : was_cut powered (Did (moment_of bytes asks Silence)) ≡ false = rw off refl in cc
-  by (Answer plain finished rule reply sent) s l = cc
-  by (Loss plain finished) s l = cc
-
--- the power was cut only where the count of cuts rose
-lost_rose : (powered : Bool) (bytes : List ℕ) (asks : List Ask) (came : Came) (old new : Device) → CameOver came old new → (is_silence came ≡ true → powered ≡ false) → was_cut powered (Did (moment_of bytes asks came)) ≡ true → Rose old.cuts new.cuts
-lost_rose powered bytes asks Silence old new over off lost = came_cause powered bytes asks Silence old new refl (off refl) lost
-lost_rose powered bytes asks (Answer plain finished rule reply sent) old new over off lost = absurd (cc)
-lost_rose powered bytes asks (Loss plain finished) old new over off lost = rose_behind finished old new over
-
--- and never where no cut was planned
-lost_planned : (powered : Bool) (bytes : List ℕ) (asks : List Ask) (came : Came) (old new : Device) → CameOver came old new → (is_silence came ≡ true → powered ≡ false) → IsTrue old.told → old.planned ≡ 0 → was_cut powered (Did (moment_of bytes asks came)) ≡ false
-lost_planned powered bytes asks Silence old new over off told none = rw (off refl) refl
-lost_planned powered bytes asks (Answer plain finished rule reply sent) old new over off told none = refl
-lost_planned powered bytes asks (Loss plain finished) old new over off told none =
-    let still : over.between.told ≡ old.told = ap (λ (d : Device). d.told) over.wrote.device in
-    let struck = over.struck (still ∙ told) in
-    let planned : over.between.planned ≡ old.planned - over.wrote.writes = ap (λ (d : Device). d.planned) over.wrote.device in
-    absurd (omega (arith, struck.0, planned, none))
-
--- a cut behind so many commits
-loss_spends : (finished before now writes between : ℕ) → between ≡ before - writes → 1 ≤ between → between ≤ MOST_WRITES → LEAST_WRITES * finished ≤ writes → writes ≤ MOST_WRITES * finished → now ≡ 0
-    → Spends before now finished 0 true
-loss_spends finished before now writes between is some few least most none = record {
-  unplanned = λ no_plan. absurd (omega (arith, is, some, no_plan));
-  ahead = λ planned kept. absurd (cc);
-  strikes = λ planned struck. (none, omega (arith, is, some, least), omega (arith, is, some, few, most));
-}
-
--- the writes that a command takes from a plan
-handled_spends : (powered : Bool) (bytes : List ℕ) (asks : List Ask) (came : Came) (old new : Device) → CameOver came old new → (is_silence came ≡ true → powered ≡ false) → (is_silence came ≡ false → powered ≡ true) → IsTrue old.told
-    → SpendsBy powered old.planned new.planned (Did (moment_of bytes asks came))
-handled_spends powered bytes asks Silence old new over off alive told =
-    rw (off refl) (stays old.planned new.planned (ap (λ (d : Device). d.planned) over))
-handled_spends powered bytes asks (Answer plain finished rule reply sent) old new over off alive told =
-    let planned : new.planned ≡ old.planned - over.writes = ap (λ (d : Device). d.planned) over.device in
-    let beyond : 0 < old.planned → over.writes < old.planned = λ some. not_within old.planned over.writes some (over.spared told) in
-    record {
-      unplanned = λ none. (omega (arith, planned, none), refl);
-      ahead = λ some kept. let later = beyond some in (omega (arith, planned, later), omega (arith, planned, later, over.least), omega (arith, planned, later, over.most));
-      strikes = λ some struck. absurd (cc);
-    }
-handled_spends powered bytes asks (Loss plain finished) old new over off alive told =
-    let wrote = over.wrote in
-    let planned : over.between.planned ≡ old.planned - wrote.writes = ap (λ (d : Device). d.planned) wrote.device in
-    let struck = over.struck (ap (λ (d : Device). d.told) wrote.device ∙ told) in
-    rw (alive refl) (loss_spends finished old.planned new.planned wrote.writes over.between.planned planned struck.0 struck.1 wrote.least wrote.most over.cut.planned)
-
-silent_on : (b : Bool) (running : Option RunningView) → b ≡ is_none running → b ≡ false → is_some running ≡ true
-silent_on b None is s = absurd (cc)
-silent_on b (Some running) is s = refl
-
-silent_off : (b : Bool) (running : Option RunningView) → b ≡ is_none running → b ≡ true → is_some running ≡ false
-silent_off b None is s = refl
-silent_off b (Some running) is s = absurd (cc)
-
-pub line_handled : (before after : CoproSeen) (old new : Scene) (bytes : List ℕ) (came : Came) (log : List Ask) (told : List Ask) (m : PlainMoment) (handles : Handles before after old new bytes came) → before.log ≡ log → told ≡ handles.asks → m ≡ moment_of bytes told came
-    → IsLine old new log after.log (ApduLine bytes) (Did m)
-line_handled before after old new bytes came log told m handles same so is =
-    let event = moment_of bytes handles.asks came in
-    let off : is_silence came ≡ true → is_some old.chip.running ≡ false = λ s. silent_off (is_silence came) old.chip.running handles.silent s in
-    let line : IsLine old new log after.log (ApduLine bytes) (Did event) = record {
-      step = handles.follows;
-      logged = handles.were_asked.logged ∙ ap (λ (l : List Ask). l ++ handles.asks) same ∙ ap (λ (l : List Ask). log ++ l) (sym (came_asks bytes handles.asks came handles.unasked));
-      carried = came_input bytes handles.asks came;
-      cause = lost_rose (is_some old.chip.running) bytes handles.asks came old.device new.device handles.device off;
-      unplanned = lost_planned (is_some old.chip.running) bytes handles.asks came old.device new.device handles.device off;
-      spends = handled_spends (is_some old.chip.running) bytes handles.asks came old.device new.device handles.device off (λ s. silent_on (is_silence came) old.chip.running handles.silent s);
-    } in
-    subst (λ (x : PlainMoment). IsLine old new log after.log (ApduLine bytes) (Did x)) (sym (is ∙ ap (λ (a : List Ask). moment_of bytes a came) so)) line
-
-pub keeps_handled : (before after : CoproSeen) (old new : Scene) (bytes : List ℕ) (came : Came) → Handles before after old new bytes came → Keeps old new (ApduLine bytes)
-keeps_handled before after old new bytes came handles = by came handles.device handles.silent handles.running where
-  by : (c : Came) → CameOver c old.device new.device → is_silence c ≡ is_off old.chip → is_off new.chip ≡ leaves_off c → Keeps old new (ApduLine bytes)
-  by Silence over silent running = record {
-    sound = handles.sound;
-    dark = λ before is. ap (λ (d : Device). d.has_power) over ∙ before (sym silent);
-    layout = handles.layout;
-    told = ap (λ (d : Device). d.told) over;
-    later = omega (arith, ap (λ (d : Device). d.cuts) over);
-    counted = λ told. omega (arith, ap (λ (d : Device). d.cuts) over);
-    unplanned = λ told plain none. ap (λ (d : Device). d.planned) over ∙ none;
-  }
-  by (Answer plain finished rule reply sent) over silent running = record {
-    sound = handles.sound;
-    dark = λ before is. absurd (cc);
-    layout = handles.layout;
-    told = ap (λ (d : Device). d.told) over.device;
-    later = omega (arith, ap (λ (d : Device). d.cuts) over.device);
-    counted = λ told. omega (arith, ap (λ (d : Device). d.cuts) over.device);
-    unplanned = λ told plain none. ap (λ (d : Device). d.planned) over.device ∙ rw none (omega arith);
-  }
-  by (Loss plain finished) over silent running = record {
-    sound = handles.sound;
-    dark = λ before is. over.cut.power;
-    layout = handles.layout;
-    told = over.cut.told ∙ ap (λ (d : Device). d.told) over.wrote.device;
-    later = omega (arith, over.cut.never_falls, ap (λ (d : Device). d.cuts) over.wrote.device);
-    counted = λ told. omega (arith, over.cut.by_one (ap (λ (d : Device). d.told) over.wrote.device ∙ told), ap (λ (d : Device). d.cuts) over.wrote.device);
-    unplanned = λ told plain none. over.cut.planned;
-  }
-
--- ---- a plan
-
-sound_running : (running : Option RunningView) (old new : Device) (cells : List ℕ) → new.has_power ≡ old.has_power → IsSoundRunning running old cells → IsSoundRunning running new cells
-sound_running None old new cells same sound = tt
-sound_running (Some running) old new cells same sound = refitting running.store old new cells sound (same ∙ powered running.store old cells sound)
-
-planned_power : (write : ℕ) (device : Device) → (planned_by write device).has_power ≡ device.has_power
-planned_power write device = by (write == 0) where
-  by : (b : Bool) → (if b then device else planned_at write device).has_power ≡ device.has_power
-  by true = refl
-  by false = refl
-
-planned_told : (write : ℕ) (device : Device) → (planned_by write device).told ≡ device.told
-planned_told write device = by (write == 0) where
-  by : (b : Bool) → (if b then device else planned_at write device).told ≡ device.told
-  by true = refl
-  by false = refl
-
-planned_cuts : (write : ℕ) (device : Device) → (planned_by write device).cuts ≡ device.cuts
-planned_cuts write device = by (write == 0) where
-  by : (b : Bool) → (if b then device else planned_at write device).cuts ≡ device.cuts
-  by true = refl
-  by false = refl
-
--- what the device does with a plan
-pub planned_is : (write : ℕ) (device : Device) → 0 < write → planned_at write device ≡ planned_by write device
-planned_is write device some =
-    let other : (write == 0) ≡ false = grind (arith, nat_tests) in
-    rw other refl
-
-pub planned_none : (write : ℕ) (device : Device) → write ≤ 0 → device ≡ planned_by write device
-planned_none write device none =
-    let is : (write == 0) ≡ true = grind (arith, nat_tests) in
-    rw is refl
-
-pub scene_planned : (chip : ChipView) (old new : Device) (cells cells_now : List ℕ) (write : ℕ) → new ≡ planned_by write old → cells_now ≡ cells → scene chip new cells_now ≡ record (scene chip old cells) { device = planned_by write old }
-scene_planned chip old new cells cells_now write is same = ap (λ (d : Device). scene chip d cells_now) is ∙ ap (λ (c : List ℕ). scene chip (planned_by write old) c) same
-
-pub line_planned : (old new : Scene) (write : ℕ) (tear : Tear) (log : List Ask) → new ≡ record old { device = planned_by write old.device } → IsLine old new log log (CutLine write tear) (Planned write tear)
-line_planned old new write tear log is = record { step = is; logged = sym (append-nil log); carried = refl; cause = λ lost. absurd (cc); unplanned = λ told none. refl; spends = λ told. tt }
-
-pub keeps_planned : (chip : ChipView) (old new : Device) (cells cells_now : List ℕ) (write : ℕ) (tear : Tear) → new ≡ planned_by write old → cells_now ≡ cells → IsSound (scene chip old cells) → Keeps (scene chip old cells) (scene chip new cells_now) (CutLine write tear)
-keeps_planned chip old new cells cells_now write tear is same sound =
-    let power : new.has_power ≡ old.has_power = ap (λ (d : Device). d.has_power) is ∙ planned_power write old in
-    record {
-      sound = rw same (sound_running chip.running old new cells power sound);
-      dark = λ before off. power ∙ before off;
-      layout = ap (λ (c : List ℕ). slice_index c 0) same;
-      told = ap (λ (d : Device). d.told) is ∙ planned_told write old;
-      later = omega (arith, ap (λ (d : Device). d.cuts) is, planned_cuts write old);
-      counted = λ told. omega (arith, ap (λ (d : Device). d.cuts) is, planned_cuts write old);
-      unplanned = λ told plain none. absurd (cc);
-    }
-
--- ---- texts
-
--- what holds on success, and on an error, by what follows from it
-pub on_ok : {A E P Q : Type 0} (r : Result A E) → (P → Q) → OnOk r P → OnOk r Q
-on_ok (Ok x) f p = f p
-on_ok (Err e) f p = _
-
-pub on_err : {A E P Q : Type 0} (r : Result A E) → (P → Q) → OnErr r P → OnErr r Q
-on_err (Ok x) f p = _
-on_err (Err e) f p = f p
-
--- a moment was made, and its text written, or a front of it
-pub did_line : (old new : Scene) (log log_now : List Ask) (line : ScriptLine) (m : PlainMoment) (before now : SinkSeen) → IsLine old new log log_now line (Did m) → (IsTrue before.tells → Grew before.written now.written (text m)) → DidLine old new log log_now line before now
-did_line old new log log_now line m before now made written = record { happened = Did m; made = made; written = written }
-
-pub part_of_line : (old new : Scene) (log log_now : List Ask) (line : ScriptLine) (m : PlainMoment) (before now : SinkSeen) → IsLine old new log log_now line (Did m) → (IsTrue before.tells → GrewByPart before.written now.written (text m)) → BrokeOffLine old new log log_now line before now
-part_of_line old new log log_now line m before now made written = inr (record { moment = m; made = made; written = written })
-
-pub line_same : (old new : Scene) (log : List Ask) (line : ScriptLine) (e m : PlainMoment) → m ≡ e → IsLine old new log log line (Did e) → IsLine old new log log line (Did m)
-line_same old new log line e m same made = subst (λ (x : PlainMoment). IsLine old new log log line (Did x)) (sym same) made
-
--- a plan writes nothing
-pub planned_line : (old new : Scene) (log : List Ask) (line : ScriptLine) (write : ℕ) (tear : Tear) (seen : SinkSeen) → IsLine old new log log line (Planned write tear) → DidLine old new log log line seen seen
-planned_line old new log line write tear seen made = record { happened = Planned write tear; made = made; written = λ tells. sym (append-nil seen.written) }
-
--- what was appended is what stands behind
-pub asks_behind : (log log_now asks : List Ask) → log_now ≡ log ++ asks → drop (length log) log_now ≡ asks
-asks_behind log log_now asks logged = ap (drop (length log)) logged ∙ drop_at log asks (length log) refl
-
-pub no_shorter : (log log_now asks : List Ask) → log_now ≡ log ++ asks → length log ≤ length log_now
-no_shorter log log_now asks logged = let size : length log_now ≡ length log + length asks = ap length logged ∙ length-append log asks in omega arith
-
-pub some_is_not_none : {A : Type 0} (o : Option A) → IsSome o → o ≡ None → ⊥
-some_is_not_none o some none = absurd (cc)
+use Rattle.eid_script.specs.Scripts.{ScriptLine, plain_line}
+use Rattle.eid_step.specs.Effects.{LineEffect, Did, Planned, line_for, line_of, CountedBy, is_power_on}
+use Rattle.eid_step.specs.Lines.{is_cut_line, text_of, was_cut, planned_by, Spends, IsLine, Keeps, DidLine, BrokeOffLine}
+use Rattle.eid_step.proofs.Lines.{sound_running, planned_power}
+use Rattle.eid_run.specs.Runs.{journal, is_plan, IsFrontOfTrace, RanLines, DidSomeLines, Outside, losses, Counts, Stretch, stretch, longer, IsInStretch, IsAhead, IsAheadIn}
+use Rattle.eid_run.proofs.SoFar.{IsRunSoFar}
 
 pub some_of : {A : Type 0} (o : Option A) → IsSome o → (x : A) × (o ≡ Some x)
 some_of None some = absurd (cc)
@@ -411,10 +89,41 @@ ahead_planned false write before device is told few ahead =
 
 -- ---- runs
 
+later_of : (cut : Bool) (before now : ℕ) → CountedBy cut before now → before ≤ now
+later_of true before now counted = counted.0
+later_of false before now counted = omega (arith, counted)
+
+rose_of : (cut : Bool) (before now : ℕ) → CountedBy cut before now → cut ≡ true → Rose before now
+rose_of true before now counted is = counted.1
+rose_of false before now counted is = absurd (cc)
+
+-- counts never fall
+later_all : (entry : ℕ) (happened : List LineEffect) (exit : ℕ) → Counts entry happened exit → entry ≤ exit
+later_all entry [] exit counts = omega (arith, counts)
+later_all entry (Did m ∷ before) exit counts =
+    let earlier = later_all entry before counts.0 counts.1.0 in
+    let last = later_of (lost m (journal before)) counts.0 exit counts.1.1 in
+    omega (arith, earlier, last)
+later_all entry (Planned write tear ∷ before) exit counts = later_all entry before exit counts
+
 -- each cut of the power is counted
-rose_more : (lost : Bool) (start before now losses : ℕ) → before ≤ now → (lost ≡ true → Rose before now) → min (start + losses) (2 ^ 64 - 1) ≤ before → min (start + (once lost + losses)) (2 ^ 64 - 1) ≤ now
-rose_more true start before now losses later rose earlier = let up : Rose before now = rose refl in omega (arith, up, earlier)
-rose_more false start before now losses later rose earlier = omega (arith, later, earlier)
+counted_one : (cut : Bool) (entry before now cuts : ℕ) → CountedBy cut before now → min (entry + cuts) (2 ^ 64 - 1) ≤ before → min (entry + (once cut + cuts)) (2 ^ 64 - 1) ≤ now
+counted_one true entry before now cuts counted earlier = let up = counted.1 in omega (arith, up, earlier)
+counted_one false entry before now cuts counted earlier = omega (arith, counted, earlier)
+
+counted_all : (entry : ℕ) (happened : List LineEffect) (exit : ℕ) → Counts entry happened exit → min (entry + losses (journal happened)) (2 ^ 64 - 1) ≤ exit
+counted_all entry [] exit counts = omega (arith, counts)
+counted_all entry (Did m ∷ before) exit counts = counted_one (lost m (journal before)) entry counts.0 exit (losses (journal before)) counts.1.1 (counted_all entry before counts.0 counts.1.0)
+counted_all entry (Planned write tear ∷ before) exit counts = counted_all entry before exit counts
+
+-- a line has one cut at most
+few_losses : (happened : List LineEffect) → losses (journal happened) ≤ length happened
+few_losses [] = omega arith
+few_losses (Did m ∷ before) = by (lost m (journal before)) (few_losses before) where
+  by : (cut : Bool) → losses (journal before) ≤ length before → once cut + losses (journal before) ≤ suc (length before)
+  by true few = omega (arith, few)
+  by false few = omega (arith, few)
+few_losses (Planned write tear ∷ before) = let few = few_losses before in omega (arith, few)
 
 -- a chip that is off does not run
 alive_on : (running : Option RunningView) (power : Bool) → is_some running ≡ power → power ≡ false → is_none running ≡ true
@@ -443,6 +152,17 @@ not_true false f = refl
 or_parts : (a b : Bool) → (a || b) ≡ false → (a ≡ false) × (b ≡ false)
 or_parts true b e = absurd (cc)
 or_parts false b e = (refl, e)
+
+-- where the count did not rise there was no cut
+steady_all : (entry : ℕ) (happened : List LineEffect) (exit : ℕ) → Counts entry happened exit → (Rose entry exit → ⊥) → AreSteady (journal happened)
+steady_all entry [] exit counts still = tt
+steady_all entry (Did m ∷ before) exit counts still =
+    let earlier = later_all entry before counts.0 counts.1.0 in
+    let last = later_of (lost m (journal before)) counts.0 exit counts.1.1 in (
+      steady_all entry before counts.0 counts.1.0 (rose_first entry counts.0 exit earlier last still),
+      not_true (lost m (journal before)) (λ cut. rose_either entry counts.0 exit earlier last still (rose_of (lost m (journal before)) counts.0 exit counts.1.1 cut)),
+    )
+steady_all entry (Planned write tear ∷ before) exit counts still = steady_all entry before exit counts still
 
 plan_is : (h : LineEffect) (line : ScriptLine) → line_of h ≡ line → is_plan h ≡ is_cut_line line
 plan_is (Did m) line is = by m.input is where
@@ -473,17 +193,15 @@ more (Did m) opening start old new log_0 log log_now lines line first before now
       happened = Did m ∷ run.happened;
       fits = step.1;
       legal = (step.0, run.legal);
-      steady = λ still. (
-        run.steady (rose_first start.device.cuts old.device.cuts new.device.cuts run.later keeps.later still),
-        sym lost_is ∙ not_true (was_cut (is_some old.chip.running) (Did m)) (λ cut. rose_either start.device.cuts old.device.cuts new.device.cuts run.later keeps.later still (made.cause cut)),
-      );
+      counts = (old.device.cuts, (run.counts, subst (λ (b : Bool). CountedBy b old.device.cuts new.device.cuts) lost_is made.counts));
+      exact = λ told.
+          let one = subst (λ (b : Bool). new.device.cuts ≡ old.device.cuts + once b) lost_is (made.exact (run.same_told ∙ told)) in
+          let earlier = run.exact told in
+          omega (arith, one, earlier);
       unplanned = λ told none unplanned.
           let earlier = run.unplanned told none unplanned in
           let told_now : IsTrue old.device.told = run.same_told ∙ told in
           ((earlier.0, sym lost_is ∙ made.unplanned told_now earlier.1), keeps.unplanned told_now plain earlier.1);
-      later = omega (arith, run.later, keeps.later);
-      counted = λ told. omega (arith, run.counted told, keeps.counted (run.same_told ∙ told));
-      rose = rose_more (lost m (journal run.happened)) start.device.cuts old.device.cuts new.device.cuts (losses (journal run.happened)) keeps.later (λ cut. made.cause (lost_is ∙ cut)) run.rose;
       strikes = λ told none few.
           let earlier = run.strikes told none (omega (arith, few)) in
           let spends = subst (λ (b : Bool). Spends old.device.planned new.device.planned m.finished (once (is_power_on m.input)) b) lost_is (made.spends (run.same_told ∙ told)) in
@@ -499,15 +217,14 @@ more (Planned write tear) opening start old new log_0 log log_now lines line fir
   happened = Planned write tear ∷ run.happened;
   fits = planned_fits old new opening (journal run.happened) write made.step run.fits;
   legal = run.legal;
-  steady = λ still. run.steady (rose_first start.device.cuts old.device.cuts new.device.cuts run.later keeps.later still);
+  counts = subst (λ (n : ℕ). Counts start.device.cuts run.happened n) (sym made.counts) run.counts;
+  exact = λ told. made.counts ∙ run.exact told;
   unplanned = λ told none unplanned. absurd (cc);
-  later = omega (arith, run.later, keeps.later);
-  counted = λ told. omega (arith, run.counted told, keeps.counted (run.same_told ∙ told));
-  rose = omega (arith, run.rose, keeps.later);
   strikes = λ told none few.
       let earlier = run.strikes told none (omega (arith, few)) in
-      let cuts = run.counted told in
-      (earlier.0, rw made.step (ahead_planned (write == 0) write (stretch run.happened) old.device refl (run.same_told ∙ told) (omega (arith, few, cuts)) earlier.1));
+      let cuts = run.exact told in
+      let many = few_losses run.happened in
+      (earlier.0, rw made.step (ahead_planned (write == 0) write (stretch run.happened) old.device refl (run.same_told ∙ told) (omega (arith, few, cuts, many)) earlier.1));
   same_told = keeps.told ∙ run.same_told;
   dark = λ off. keeps.dark (run.dark off);
   carried = rw (run.carried, made.carried) refl;
@@ -536,10 +253,14 @@ pub ran_lines : (opening : FullRecord) (chip chip_now : ChipView) (old new : Out
     → new.copro.told ≡ old.copro.told → slice_index new.cells 0 ≡ slice_index old.cells 0 → RanLines opening run.happened old new
 ran_lines opening chip chip_now old new lines before now run told layout = record {
   legal = run.legal;
-  counted = run.rose;
-  steady = run.steady;
+  counts = run.counts;
+  counted = counted_all old.device.cuts run.happened new.device.cuts run.counts;
+  exact = run.exact;
+  steady = steady_all old.device.cuts run.happened new.device.cuts run.counts;
   unplanned = λ is none unplanned. (run.unplanned is none unplanned).0;
+  none_planned = λ is none unplanned. (run.unplanned is none unplanned).1;
   strikes = λ told none few. (run.strikes told none few).0;
+  ahead = λ told none few. (run.strikes told none few).1;
   only = λ source answered steady. only_journal source opening (journal run.happened) run.legal steady answered;
   logged = run.logged;
   told = told;
@@ -566,7 +287,7 @@ broke_off opening chip chip_was chip_now old was new lines line rest whole parts
 broke_off opening chip chip_was chip_now old was new lines line rest whole parts tells told layout run (inr part) keeps =
     let at = more (Did part.moment) opening (scene chip old.device old.cells) (scene chip_was was.device was.cells) (scene chip_now new.device new.cells) old.copro.log was.copro.log new.copro.log lines line
     (record old.sink { tells = false }) (record was.sink { tells = false }) (record new.sink { tells = false }) refl
-    (record { happened = run.happened; fits = run.fits; legal = run.legal; steady = run.steady; unplanned = run.unplanned; later = run.later; counted = run.counted; rose = run.rose; strikes = run.strikes; same_told = run.same_told; dark = run.dark; carried = run.carried; logged = run.logged; written = λ never. absurd (cc) })
+    (record { happened = run.happened; fits = run.fits; legal = run.legal; counts = run.counts; exact = run.exact; unplanned = run.unplanned; strikes = run.strikes; same_told = run.same_told; dark = run.dark; carried = run.carried; logged = run.logged; written = λ never. absurd (cc) })
     part.made keeps (λ never. absurd (cc)) in
     record {
       happened = at.happened;

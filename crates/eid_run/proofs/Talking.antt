@@ -1,6 +1,6 @@
 -- A session with one turn more.
-use Rattle.std.proofs.Common.{◌≡◌, ℕ, ◌+◌, suc, Bool, true, false, IsTrue, List, [], ◌∷◌, ◌++◌, length, map, Option, Some, None, refl, sym, ap, ◌∙◌, subst, inl, inr, ◌≤◌, append_assoc, append-nil, length-append, arith, IfSome}
-use Rattle.std.specs.Prelude.{◌==◌, is_some, option_map, slice_index, if◌then◌else◌}
+use Rattle.std.proofs.Common.{◌≡◌, ℕ, ◌+◌, suc, Bool, true, false, IsTrue, List, [], ◌∷◌, ◌++◌, length, map, Option, Some, None, Err, refl, sym, ap, ◌∙◌, subst, inl, inr, ◌≤◌, append_assoc, append-nil, length-append, arith, IfSome}
+use Rattle.std.specs.Prelude.{◌==◌, IsErrOf, is_some, option_map, slice_index, if◌then◌else◌}
 use Rattle.std.specs.Option.{option_to_list}
 use Rattle.std.specs.List.{count_by}
 use Rattle.std.proofs.lemmas.List.Sums.{fold-append}
@@ -8,6 +8,9 @@ use Rattle.std.proofs.lemmas.Grind.{flat_map-append}
 use Rattle.std.proofs.lemmas.List.{length-map, map-append}
 use Rattle.std.specs.List.{All}
 use Rattle.std.proofs.lemmas.List.Elements.{All-cons, All-nil}
+use Rattle.eid_base.specs.declared.codes.RunError.{RunError}
+use Rattle.eid_base.specs.declared.codes.RunError.TheVariants.{SinkFault, NoMemory}
+use Rattle.eid_base.specs.Faults.{Rose}
 use Rattle.eid_base.specs.Seen.{Grew, GrewByPart, SinkSeen}
 use Rattle.eid_cells.specs.Device.{Device}
 use Rattle.eid_chip.specs.Fits.{Fits, Scene, is_off, scene}
@@ -31,15 +34,18 @@ use Rattle.eid_terminal.specs.Replies.{success}
 use Rattle.eid_terminal.specs.Terminals.{Goes, TerminalView, begun, course, left_at, move_seen}
 use Rattle.eid_terminal.proofs.Within.{at_most}
 use Rattle.eid_run.specs.Conversations.{Exchange, IsEnd, Talks, Told, Passed, Result, command_of, reply_of, IsDue}
-use Rattle.eid_run.specs.Lines.{DidLine, IsLine, IsRunSoFar, Keeps}
+use Rattle.eid_step.specs.Effects.{Did, LineEffect, line_for}
+use Rattle.eid_step.specs.Lines.{DidLine, IsLine, Keeps}
+use Rattle.eid_step.specs.Sendable.{AnswersWell}
+use Rattle.eid_step.specs.Sinks.{TellsFault, untold}
 use Rattle.eid_run.specs.Report.{report, stop_line, told_line, told_lines}
-use Rattle.eid_run.specs.Runs.{Did, LineEffect, Outside, journal, line_for}
-use Rattle.eid_run.specs.Sessions.{AnswersWell, AreReplies, Conversed, DidPartOfSession, DidSession, command_line, replied, replies_in, replies_to, session_lines}
+use Rattle.eid_run.specs.Runs.{Outside, journal}
+use Rattle.eid_run.specs.Sessions.{AreReplies, Conversed, DidPartOfSession, DidSession, command_line, replied, replies_in, replies_to, session_lines}
 use Rattle.eid_run.specs.Tallies.{CountedSession, IsTallyOf, is_answered, is_refused, no_results, tally_more, tally_reply}
 use Rattle.eid_run.specs.declared.tally.Tally.{Tally}
-use Rattle.eid_run.specs.Talk.{BrokeTurn, ChipDid, DidTurn, IsLeftAlone, IsTalkSoFar, NoTurn, PartOfTurn, Standing, turn_line, turns, standing, written_so_far}
-use Rattle.eid_run.specs.Sinks.{untold}
+use Rattle.eid_run.specs.Talk.{BrokeTurn, ChipDid, DidTurn, IsLeftAlone, NoTurn, PartOfTurn, Standing, turn_line, standing}
 use Rattle.eid_run.proofs.Conversing.{here, reached_of, talks_on, talks_turn}
+use Rattle.eid_run.proofs.SoFar.{IsRunSoFar, IsTalkSoFar, turns, written_so_far}
 use Rattle.eid_run.proofs.Running.{ran_happened, ran_lines, ran_more}
 
 -- ---- lists
@@ -263,11 +269,9 @@ no_lines opening start at log fits same dark = record {
   happened = [];
   fits = fits;
   legal = tt;
-  steady = λ still. tt;
+  counts = ap (λ (d : Device). d.cuts) same;
+  exact = λ told. let cuts = ap (λ (d : Device). d.cuts) same in omega (arith, cuts);
   unplanned = λ told none unplanned. (tt, ap (λ (d : Device). d.planned) same ∙ none);
-  later = omega (arith, ap (λ (d : Device). d.cuts) same);
-  counted = λ told. omega (arith, ap (λ (d : Device). d.cuts) same);
-  rose = rw same (omega arith);
   strikes = λ told none few. (tt, ap (λ (d : Device). d.planned) same ∙ none);
   same_told = ap (λ (d : Device). d.told) same;
   dark = dark;
@@ -471,6 +475,20 @@ talk_untaken plan opening chip old terminal fits =
       };
       written = λ telling. ([], (report plan [] (course plan), refl), sym (append-nil old.sink.written));
     }
+
+-- an error is told alike, whatever a success would have brought
+same_error : {A B : Type 0} (error : RunError) → IsErrOf {T = A} (Err error) SinkFault → IsErrOf {T = B} (Err error) SinkFault
+same_error SinkFault is = refl
+same_error NoMemory is = absurd (cc)
+
+-- a fault behind turns without one
+pub fault_on : {A B : Type 0} (first before now : SinkSeen) (error : RunError) → before.tells ≡ first.tells → before.faults ≡ first.faults → TellsFault {T = A} before now (Err error) → TellsFault {T = B} first now (Err error)
+fault_on first before now error tells faults sink = record {
+  tells = sink.tells ∙ tells;
+  later = subst (λ (n : ℕ). n ≤ now.faults) faults sink.later;
+  fault = λ is. subst (λ (n : ℕ). Rose n now.faults) faults (sink.fault (same_error error is));
+  still = λ other. sink.still (λ is. other (same_error error is)) ∙ faults;
+}
 
 -- ---- it ends in time
 

@@ -4,7 +4,7 @@ use Rattle.std.specs.Prelude.{ℕ, List}
 use Rattle.eid_base.specs.Seen.{SinkSeen}
 use Rattle.eid_terminal.specs.Plans.{PlainPlan}
 use Rattle.eid_run.specs.Big.{AreTalks, PlainCounts, Talk}
-use Rattle.eid_run.specs.Sinks.{untold}
+use Rattle.eid_step.specs.Sinks.{untold}
 use Rattle.eid_run.specs.Tallies.{IsTallyOf}
 use Rattle.eid_run.specs.declared.big.Counts.{Counts}
 use Rattle.eid_run.specs.declared.quiet.Quiet.{Quiet}

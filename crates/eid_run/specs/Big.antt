@@ -13,7 +13,7 @@ use Rattle.eid_workload.specs.Generated.{big_config, big_plans, big_record}
 use Rattle.eid_run.specs.Meetings.{MetWhole, meeting}
 use Rattle.eid_run.specs.Report.{line}
 use Rattle.eid_run.specs.Runs.{journal}
-use Rattle.eid_run.specs.Sinks.{untold}
+use Rattle.eid_step.specs.Sinks.{untold}
 use Rattle.eid_run.specs.Tallies.{is_answered, is_refused}
 
 -- How many requests were answered with 9000, how many with another status, and how many commits were made.

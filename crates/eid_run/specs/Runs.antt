@@ -2,34 +2,19 @@
 use Rattle.std.specs.Prelude.{◌≡◌, ℕ, ◌+◌, ◌-◌, ◌*◌, ◌^◌, min, ◌<◌, ◌≤◌, ◌==◌, ◌||◌, Bool, true, false, IsTrue, List, [], ◌∷◌, ◌++◌, length, slice_index, Option, Some, None, option_map, if◌then◌else◌}
 use Rattle.eid_base.specs.Faults.{Rose}
 use Rattle.eid_base.specs.Seen.{SinkSeen, IsFront, Grew}
-use Rattle.eid_cells.specs.declared.tear.Tear.{Tear}
 use Rattle.eid_cells.specs.Device.{Device}
 use Rattle.eid_record.specs.Plain.{FullRecord}
 use Rattle.eid_store.specs.Cost.{once}
 use Rattle.eid_store.specs.Stands.{stands}
 use Rattle.eid_copro.specs.Seen.{CoproSeen}
 use Rattle.eid_copro.specs.Told.{Source, AnswersFrom}
-use Rattle.eid_model.specs.Moments.{Event, PoweredOn, PoweredOff, Received, PlainMoment, on, asked, lost, AreSteady}
+use Rattle.eid_model.specs.Moments.{PlainMoment, on, asked, lost, AreSteady}
 use Rattle.eid_model.specs.Legal.{AreLegal, IsOnlyJournal}
 use Rattle.eid_model.specs.Ledger.{kept, pending, MayHold}
 use Rattle.eid_model.specs.Trace.{text, trace}
 use Rattle.eid_chip.specs.Commits.{LEAST_WRITES, MOST_WRITES, MOST_MOUNTING}
-use Rattle.eid_script.specs.Scripts.{ScriptLine, OnLine, OffLine, ApduLine, CutLine}
-
--- What a line made: a moment, or the plan of a cut.
-pub data LineEffect : Type 0 where
-  Did : PlainMoment → LineEffect
-  Planned : ℕ → Tear → LineEffect
-
--- the line that asks for what came
-abbrev pub line_for : Event → ScriptLine
-line_for (PoweredOn found) = OnLine
-line_for PoweredOff = OffLine
-line_for (Received bytes) = ApduLine bytes
-
-abbrev pub line_of : LineEffect → ScriptLine
-line_of (Did m) = line_for m.input
-line_of (Planned write tear) = CutLine write tear
+use Rattle.eid_script.specs.Scripts.{ScriptLine}
+use Rattle.eid_step.specs.Effects.{LineEffect, Did, Planned, line_of, CountedBy, is_power_on}
 
 -- the lines that were carried out, the first one first; what happened has the newest first
 abbrev pub lines_of : List LineEffect → List ScriptLine
@@ -56,6 +41,13 @@ abbrev pub losses : List PlainMoment → ℕ
 losses [] = 0
 losses (m ∷ before) = once (lost m before) + losses before
 
+-- The count of cuts from the entry to the exit, line by line: it rose in each line in which the power was cut, and stays in
+-- any other.
+abbrev pub Counts : (entry : ℕ) → List LineEffect → (exit : ℕ) → Type 0
+Counts entry [] exit = exit ≡ entry
+Counts entry (Did m ∷ before) exit = (between : ℕ) × (Counts entry before between × CountedBy (lost m (journal before)) between exit)
+Counts entry (Planned write tear ∷ before) exit = Counts entry before exit
+
 -- ---- where planned cuts strike
 
 -- The stretch of a `cut` line, up to the next one: the write that the line names, the commits that finished and the
@@ -65,11 +57,6 @@ pub record Stretch : Type 0 where
   pub commits : ℕ
   pub power_ons : ℕ
   pub cuts : ℕ
-
-abbrev pub is_power_on : Event → Bool
-is_power_on (PoweredOn found) = true
-is_power_on PoweredOff = false
-is_power_on (Received bytes) = false
 
 -- one moment more, in which the power was cut or not; behind a cut only further cuts count
 abbrev pub longer : (cut : Bool) → PlainMoment → Stretch → Stretch
@@ -90,6 +77,18 @@ pub record IsAsPlanned (s : Stretch) : Type 0 where
   pub once : s.cuts ≤ 1
   pub not_before : LEAST_WRITES * s.commits < s.write
   pub not_after : 1 ≤ s.cuts → s.write ≤ MOST_WRITES * (s.commits + 1) + MOST_MOUNTING * s.power_ons
+
+-- so many writes are ahead of the cut that a stretch plans; none where it struck
+pub record IsAheadIn (s : Stretch) (planned : ℕ) : Type 0 where
+  pub is : IsAsPlanned s
+  pub waits : s.cuts ≡ 0 → (0 < planned) × (planned + LEAST_WRITES * s.commits ≤ s.write)
+      × (s.write ≤ planned + MOST_WRITES * s.commits + MOST_MOUNTING * s.power_ons)
+  pub struck : 0 < s.cuts → planned ≡ 0
+
+-- and none without a stretch
+abbrev pub IsAhead : Option Stretch → ℕ → Type 0
+IsAhead None planned = planned ≡ 0
+IsAhead (Some s) planned = IsAheadIn s planned
 
 -- a moment before the first `cut` line was not cut; any other is of a stretch that is as planned
 abbrev pub IsInStretch : Option Stretch → (cut : Bool) → Type 0
@@ -121,17 +120,23 @@ outside device cells copro sink = record { device = device; cells = cells; copro
 abbrev pub resting : Device
 resting = record { has_power = false; told = true; planned = 0; cuts = 0 }
 
--- What a run of lines did, whose moments are this journal: it is legal; the device's count of cuts rose by each cut of the
--- power, as far as it can count, and where it did not rise there was none, nor where the device told that no cut was planned
--- and no line planned one; where it tells its plans, and can count a cut more for each line, cuts come as they were planned;
--- the coprocessor's log grew by the questions of the moments; the cells hold what the journal says; and the device has power
--- exactly where the chip has.
+-- What a run of lines did, whose moments are this journal: it is legal; the device's count of cuts rose in each line in which
+-- the power was cut, and stays in any other, so it is higher by these cuts, as far as it can count, and exactly where the
+-- device tells its plans; where it did not rise there was no cut. Where the device told that no cut was planned and no line
+-- planned one, there was none, and none is planned; where it can count a cut more for each line, cuts come as they were
+-- planned, and what is planned then is ahead; the coprocessor's log grew by the questions of the moments; the cells hold what
+-- the journal says; and the device has power exactly where the chip has.
 pub record RanLines (opening : FullRecord) (happened : List LineEffect) (old new : Outside) : Type 0 where
   pub legal : AreLegal opening (journal happened)
+  pub counts : Counts old.device.cuts happened new.device.cuts
   pub counted : min (old.device.cuts + losses (journal happened)) (2 ^ 64 - 1) ≤ new.device.cuts
+  pub exact : IsTrue old.device.told → new.device.cuts ≡ old.device.cuts + losses (journal happened)
   pub steady : (Rose old.device.cuts new.device.cuts → ⊥) → AreSteady (journal happened)
   pub unplanned : IsTrue old.device.told → old.device.planned ≡ 0 → has_plan happened ≡ false → AreSteady (journal happened)
+  pub none_planned : IsTrue old.device.told → old.device.planned ≡ 0 → has_plan happened ≡ false → new.device.planned ≡ 0
   pub strikes : IsTrue old.device.told → old.device.planned ≡ 0 → old.device.cuts + length happened < 2 ^ 64 → CutsAsPlanned happened
+  pub ahead : IsTrue old.device.told → old.device.planned ≡ 0 → old.device.cuts + length happened < 2 ^ 64
+      → IsAhead (stretch happened) new.device.planned
   pub only : (source : Source) → AnswersFrom source (asked (journal happened)) → AreSteady (journal happened)
       → IsOnlyJournal source opening (journal happened)
   pub logged : new.copro.log ≡ old.copro.log ++ asked (journal happened)

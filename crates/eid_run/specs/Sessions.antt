@@ -2,20 +2,20 @@
 use Rattle.std.specs.Prelude.{◌≡◌, ℕ, List, [], ◌∷◌, ◌++◌, map, Option, Some, None, IfSome, IsTrue}
 use Rattle.std.specs.List.{All}
 use Rattle.std.specs.Option.{option_to_list}
-use Rattle.eid_apdu.specs.Answer.{PlainReply, IsReply}
 use Rattle.eid_base.specs.Seen.{Grew, GrewByPart}
 use Rattle.eid_copro.specs.Seen.{CoproSeen}
 use Rattle.eid_copro.specs.declared.ask.Ask.{Ask}
 use Rattle.eid_record.specs.Plain.{FullRecord}
 use Rattle.eid_model.specs.Moments.{Event, PoweredOn, PoweredOff, Received, PlainMoment}
-use Rattle.eid_sm.specs.Parts.{AreBytes}
 use Rattle.eid_script.specs.Scripts.{ScriptLine, OnLine, ApduLine}
 use Rattle.eid_terminal.specs.Courses.{Course}
 use Rattle.eid_terminal.specs.Plans.{PlainPlan}
 use Rattle.eid_terminal.specs.Terminals.{course}
 use Rattle.eid_run.specs.Conversations.{Exchange, Told, Talks, IsDue, IsEnd, command_of, reply_of}
 use Rattle.eid_run.specs.Report.{report}
-use Rattle.eid_run.specs.Runs.{LineEffect, Outside, RanLines, journal, lines_of}
+use Rattle.eid_step.specs.Effects.{LineEffect}
+use Rattle.eid_step.specs.Sendable.{AnswersWell}
+use Rattle.eid_run.specs.Runs.{Outside, RanLines, journal, lines_of}
 
 -- the bytes that come back of a moment: those sent, or none where nothing was sent
 abbrev pub bytes_or_none : Option (List ℕ) → List ℕ
@@ -42,15 +42,6 @@ command_line e = ApduLine (command_of e)
 
 abbrev pub session_lines : List Exchange → List ScriptLine
 session_lines exchanges = OnLine ∷ map command_line exchanges
-
--- a reply that can be sent, protected too
-pub record CanBeSent (r : PlainReply) : Type 0 where
-  pub reply : IsReply r
-  pub octets : AreBytes r.content
-
--- the answer of a moment, where there is one, can be sent
-abbrev pub AnswersWell : PlainMoment → Type 0
-AnswersWell m = IfSome m.answer CanBeSent
 
 -- the replies of these exchanges are what the chip sent, and each of its answers can be sent
 pub record AreReplies (happened : List LineEffect) (exchanges : List Exchange) : Type 0 where

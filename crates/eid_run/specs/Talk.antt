@@ -1,31 +1,30 @@
 -- Inside: cited by private contracts alone.
--- A session so far, and what one turn of it does.
-use Rattle.std.specs.Prelude.{◌≡◌, ◌⊎◌, ℕ, ◌+◌, true, false, List, [], ◌++◌, length, Option, Some, None, IsTrue, is_some, option_map, if◌then◌else◌}
-use Rattle.std.specs.Option.{option_to_list}
+-- What one turn of a session does.
+use Rattle.std.specs.Prelude.{◌≡◌, ◌⊎◌, ℕ, List, [], Option, Some, None, IsTrue}
 use Rattle.eid_base.specs.Seen.{SinkSeen, Grew, GrewByPart}
 use Rattle.std.specs.List.{slice_get}
-use Rattle.eid_chip.specs.Fits.{Came, Silence, Answer, Loss, Scene, IsSound}
+use Rattle.eid_chip.specs.Fits.{Came, Silence, Answer, Loss, Scene, scene}
 use Rattle.eid_model.specs.Moments.{PlainMoment}
 use Rattle.eid_copro.specs.Seen.{CoproSeen}
 use Rattle.eid_copro.specs.Told.{AnswersFrom, KeepsTo, Source}
 use Rattle.eid_copro.specs.Told as told
 use Rattle.eid_copro.specs.declared.ask.Ask.{Ask}
-use Rattle.eid_record.specs.Plain.{FullRecord}
 use Rattle.eid_script.specs.Scripts.{ApduLine}
 use Rattle.eid_terminal.specs.declared.action.Action.{Action}
 use Rattle.eid_terminal.specs.declared.plan.Request.{Request}
 use Rattle.eid_terminal.specs.Moves.{Move}
 use Rattle.eid_terminal.specs.Moves as moves
-use Rattle.eid_terminal.specs.Plans.{PlainPlan}
-use Rattle.eid_terminal.specs.Terminals.{Goes, TerminalView, course, move_seen}
-use Rattle.eid_run.specs.Conversations.{Exchange, IsDue, IsEnd, Told, Talks, reply_of}
-use Rattle.eid_run.specs.Lines.{IsLine, IsRunSoFar, Keeps}
-use Rattle.eid_run.specs.Report.{asked_line, fault_line, passed_line, stop_line, stopped_line, told_lines}
-use Rattle.eid_run.specs.Runs.{Did}
-use Rattle.eid_run.specs.Sinks.{untold}
-use Rattle.eid_run.specs.Sessions.{AnswersWell, AreReplies, CanBeSent, replied, session_lines}
-use Rattle.eid_run.specs.Tallies.{IsTallyOf, tally_more}
+use Rattle.eid_terminal.specs.Terminals.{Goes, TerminalView, move_seen}
+use Rattle.eid_step.specs.Effects.{Did}
+use Rattle.eid_step.specs.Lines.{IsLine, Keeps}
+use Rattle.eid_step.specs.Sendable.{AnswersWell}
+use Rattle.eid_run.specs.Report.{asked_line, fault_line, passed_line, stopped_line}
+use Rattle.eid_run.specs.Sessions.{replied}
+use Rattle.eid_run.specs.Tallies.{tally_more}
 use Rattle.eid_run.specs.declared.tally.Tally.{Tally}
+use Rattle.eid_cells.specs.Device.{Device}
+use Rattle.eid_terminal.specs.Seen.{terminal_view}
+use Rattle.eid_run.specs.declared.session.Conversation.{Conversation}
 use Rattle.eid_run.specs.declared.session.Due.{Due}
 use Rattle.eid_run.specs.declared.session.Due.TheVariants.{Nothing, Sent, NoBytes}
 
@@ -44,10 +43,6 @@ abbrev pub due_bytes : Due → List ℕ → Option (List ℕ)
 due_bytes Nothing sent = None
 due_bytes Sent sent = Some sent
 due_bytes NoBytes sent = Some []
-
--- what a terminal that told this has had written, once it stands there
-abbrev pub written_so_far : PlainPlan → List Told → TerminalView → List ℕ
-written_so_far plan told terminal = told_lines plan told ++ (if terminal.ended then stop_line terminal.course else [])
 
 -- ---- one turn
 
@@ -98,6 +93,11 @@ abbrev pub standing : Scene → List Ask → CoproSeen → TerminalView → Opti
 standing scene log copro terminal due sink tally =
     record { scene = scene; log = log; copro = copro; terminal = terminal; due = due; sink = sink; tally = tally }
 
+-- where a conversation stands over this device
+abbrev pub stands_at : Conversation → Device → List ℕ → List Ask → CoproSeen → SinkSeen → Standing
+stands_at c device cells log copro sink =
+    standing (scene c.stepper.chip device cells) log copro (terminal_view c.terminal) (due_bytes c.due c.stepper.exchange.sent.items) sink c.tally
+
 -- the terminal took its turn, the chip did what it was asked to, and the turn was told and counted
 pub record DidTurn (requests : List Request) (old new : Standing) : Type 0 where
   pub asked : CoproSeen
@@ -126,38 +126,3 @@ pub record NoTurn (old new : Standing) : Type 0 where
 
 abbrev pub BrokeTurn : List Request → Standing → Standing → Type 0
 BrokeTurn requests old new = NoTurn old new ⊎ PartOfTurn requests old new
-
--- what each turn leaves
-pub record KeepsOn (old new : Standing) : Type 0 where
-  pub sound : IsSound new.scene
-  pub told : new.copro.told ≡ old.copro.told
-
--- ---- the session so far
-
--- the turns that it took: in each a command was sent, or something told
-abbrev pub turns : List Exchange → Option Exchange → List Told → ℕ
-turns exchanges pending told = length (exchanges ++ option_to_list pending) + length told
-
--- the answer that came of bytes, where there is one, can be sent
-abbrev pub CameWell : Came → Type 0
-CameWell Silence = Unit {0}
-CameWell (Answer plain finished rule reply sent) = CanBeSent reply
-CameWell (Loss plain finished) = Unit {0}
-
--- from where it began to where it stands
-pub record IsTalkSoFar (plan : PlainPlan) (opening : FullRecord) (start : Scene) (first now : Standing) (taken : ℕ) : Type 0 where
-  pub asks : List Ask
-  pub exchanges : List Exchange
-  pub told : List Told
-  pub pending : Option Exchange
-  pub talks : Talks (course plan) asks exchanges told now.terminal.course
-  pub sends : (e : Exchange) → pending ≡ Some e → IsDue now.terminal.course e.command
-  pub due_is : now.due ≡ option_map reply_of pending
-  pub waits : now.terminal.waits ≡ is_some pending
-  pub logged : now.copro.log ≡ first.copro.log ++ asks
-  pub run : IsRunSoFar opening start now.scene first.log now.log (session_lines (exchanges ++ option_to_list pending)) untold untold
-  pub replies : AreReplies run.happened (exchanges ++ option_to_list pending)
-  pub written : IsTrue first.sink.tells → Grew first.sink.written now.sink.written (written_so_far plan told now.terminal)
-  pub counted : now.terminal.ended ≡ false → taken ≡ turns exchanges pending told
-  pub tallied : IsTallyOf told now.tally
-  pub over : now.terminal.ended ≡ true → IsEnd now.terminal.course × (pending ≡ None)

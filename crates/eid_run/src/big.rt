@@ -1,22 +1,22 @@
 //! Many sessions that are generated from their numbers, and a summary of them.
 ghost use Rattle.std.specs.Prelude.{◌≡◌, ◌+◌, ◌*◌, ◌≤◌, ◌<◌, ◌^◌, ◌++◌, Some, IfOk, IfErr, OnOk, IsSome, decimal, length};
 ghost use Rattle.eid_record.specs.Plain.{FullRecord};
+ghost use Rattle.eid_step.specs.Sinks.{TellsFault};
 ghost use Rattle.eid_store.specs.Stands.{stands};
 ghost use Rattle.eid_terminal.specs.Plans.{IsFit, plan_view};
 ghost use Rattle.eid_workload.specs.Generated.{first_plans};
 ghost use Rattle.eid_run.specs.Attempts.{Met, Tried, counts_view};
 ghost use Rattle.eid_run.specs.Big.{AreSessions, BrokeOffBig, DidBig, IsSession, big_text};
 ghost use Rattle.eid_run.specs.Report.{line};
-ghost use Rattle.eid_run.specs.Sinks.{TellsFault};
 
 use crate::quiet::Quiet;
-use crate::run::print;
 use crate::session::{MOST_TURNS, converse};
 use crate::tally::Tally;
 use eid_base::{NoMemory, RunError, Sink};
 use eid_cells::{Eeprom, MemoryEeprom};
 use eid_copro::ModelCoprocessor;
 use eid_model::Text;
+use eid_step::print;
 use eid_store::Store;
 use eid_terminal::Plan;
 use eid_workload::{Certificates, image_for, plan_for, six_digits};

@@ -10,6 +10,6 @@ mod session;
 mod tally;
 
 pub use big::big_workload;
-pub use law::law_one_promise;
+pub use law::{law_one_promise, law_one_walk};
 pub use run::run_script;
 pub use session::run_session;

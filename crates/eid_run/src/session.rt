@@ -5,26 +5,26 @@ ghost use Rattle.eid_base.specs.Seen.{Grew, GrewByPart};
 ghost use Rattle.eid_chip.specs.Fits.{IsSound, came_in, scene};
 ghost use Rattle.eid_script.specs.Scripts.{ApduLine};
 ghost use Rattle.eid_terminal.specs.Seen.{terminal_view};
-ghost use Rattle.eid_run.specs.Lines.{Keeps};
+ghost use Rattle.eid_step.specs.Lines.{Keeps};
 ghost use Rattle.eid_chip.specs.declared.exchange.Exchange.{Exchange as ExchangeSeen};
 ghost use Rattle.eid_terminal.specs.Terminals.{move_seen};
-ghost use Rattle.eid_run.specs.Talk.{BrokeTurn, ChipReplied, DidTurn, IsLeftAlone, due_bytes, sent_back, standing, turn_line};
+ghost use Rattle.eid_run.specs.Talk.{BrokeTurn, ChipReplied, DidTurn, IsLeftAlone, due_bytes, sent_back, stands_at, turn_line};
 ghost use Rattle.eid_record.specs.Plain.{FullRecord};
 ghost use Rattle.eid_store.specs.Stands.{stands};
 ghost use Rattle.eid_terminal.specs.Plans.{IsFit, plan_view};
 ghost use Rattle.eid_run.specs.Runs.{outside};
 ghost use Rattle.eid_run.specs.Sessions.{DidPartOfSession, DidSession};
-ghost use Rattle.eid_run.specs.Sinks.{TellsFault};
+ghost use Rattle.eid_step.specs.Sinks.{TellsFault};
 ghost use Rattle.eid_run.specs.Tallies.{CountedSession};
 
 use crate::report::{put_asked, put_failed, put_passed, put_stopped};
-use crate::run::{handle, power_on, print};
 use crate::tally::Tally;
 use eid_base::{NoMemory, RunError, Sink};
 use eid_cells::Eeprom;
-use eid_chip::{Chip, Exchange, HandledIn};
+use eid_chip::HandledIn;
 use eid_copro::Coprocessor;
 use eid_model::Text;
+use eid_step::{Stepper, print};
 use eid_terminal::{Action, MAX_TURNS, Plan, Request, Terminal};
 use std::alloc::Global;
 
@@ -39,19 +39,19 @@ pub const MOST_TURNS: usize = MAX_TURNS + 2;
 enum Due {
     /// It waits for none.
     Nothing,
-    /// That which the exchange holds.
+    /// The bytes that the chip sent last.
     Sent,
     /// No bytes came back.
     NoBytes,
 }
 
 /// The bytes that came back, where a reply is due.
-fn due_reply<'a>(due: Due, exchange: &'a Exchange) -> Option<&'a [u8]>
-    ensures { option_copied result ≡ due_bytes due exchange.now.sent.items }
+fn due_reply<'a>(due: Due, stepper: &'a Stepper) -> Option<&'a [u8]>
+    ensures { option_copied result ≡ due_bytes due stepper.now.exchange.sent.items }
 {
     match due {
         Due::Nothing => None,
-        Due::Sent => Some(exchange.sent.as_slice()),
+        Due::Sent => Some(stepper.sent()),
         Due::NoBytes => Some(&[]),
     }
 }
@@ -108,80 +108,86 @@ fn tell<K: Sink>(
 
 /// Hands a command to the chip, and says what is due then.
 fn answer<E: Eeprom, C: Coprocessor>(
-    chip: &mut Chip,
+    stepper: &mut Stepper,
     bytes: &[u8],
     cells: &mut E,
     copro: &mut C,
-    exchange: &mut Exchange,
 ) -> Result<Due, NoMemory>
-    requires { IsSound (scene chip.old (E.device cells.old) (E.cells cells.old)) }
-    ensures replied { IfOk result (λ due. ChipReplied (scene chip.old (E.device cells.old) (E.cells cells.old))
-        (scene chip.new (E.device cells.new) (E.cells cells.new)) (C.seen copro.old).log (C.seen copro.new).log bytes.now
-        (due_bytes due exchange.new.sent.items)) }
-    ensures alone { OnErr result (IsLeftAlone (scene chip.old (E.device cells.old) (E.cells cells.old))
-        (scene chip.new (E.device cells.new) (E.cells cells.new)) (C.seen copro.old).log (C.seen copro.new).log) }
-    ensures keeps { Keeps (scene chip.old (E.device cells.old) (E.cells cells.old))
-        (scene chip.new (E.device cells.new) (E.cells cells.new)) (ApduLine bytes.now) }
+    requires { IsSound (scene stepper.old.chip (E.device cells.old) (E.cells cells.old)) }
+    ensures replied { IfOk result (λ due. ChipReplied (scene stepper.old.chip (E.device cells.old) (E.cells cells.old))
+        (scene stepper.new.chip (E.device cells.new) (E.cells cells.new)) (C.seen copro.old).log (C.seen copro.new).log bytes.now
+        (due_bytes due stepper.new.exchange.sent.items)) }
+    ensures alone { OnErr result (IsLeftAlone (scene stepper.old.chip (E.device cells.old) (E.cells cells.old))
+        (scene stepper.new.chip (E.device cells.new) (E.cells cells.new)) (C.seen copro.old).log (C.seen copro.new).log) }
+    ensures keeps { Keeps (scene stepper.old.chip (E.device cells.old) (E.cells cells.old))
+        (scene stepper.new.chip (E.device cells.new) (E.cells cells.new)) (ApduLine bytes.now) }
     ensures told { (C.seen copro.new).told ≡ (C.seen copro.old).told }
 {
-    match handle(chip, bytes, cells, copro, exchange) {
+    match stepper.hand_over(bytes, cells, copro) {
         Ok(came) => Ok(due_of(came)),
         Err(error) => Err(error),
     }
 }
 
-/// Takes one turn: the terminal goes on, by the reply where one is due; its command is handed to the chip, and what it
-/// tells is written and counted.
-fn take_turn<E: Eeprom, C: Coprocessor, D: Coprocessor, K: Sink>(
-    chip: &mut Chip,
-    terminal: &mut Terminal,
-    due: &mut Due,
-    requests: &[Request],
-    cells: &mut E,
-    chip_copro: &mut C,
-    terminal_copro: &mut D,
-    exchange: &mut Exchange,
-    text: &mut Text,
-    out: &mut K,
-    tally: &mut Tally,
-) -> Result<(), RunError>
-    requires sound { IsSound (scene chip.old (E.device cells.old) (E.cells cells.old)) }
-    requires answered { tally.old.answered + 1 < 2 ^ 32 }
-    requires refused { tally.old.refused + 1 < 2 ^ 32 }
-    requires going { (terminal_view terminal.old).ended ≡ false }
-    requires waits { is_some (due_bytes due.old exchange.old.sent.items) ≡ (terminal_view terminal.old).waits }
-    ensures did { OnOk result (DidTurn requests.now
-        (standing (scene chip.old (E.device cells.old) (E.cells cells.old)) (C.seen chip_copro.old).log (D.seen terminal_copro.old)
-        (terminal_view terminal.old) (due_bytes due.old exchange.old.sent.items) (K.seen out.old) tally.old)
-        (standing (scene chip.new (E.device cells.new) (E.cells cells.new)) (C.seen chip_copro.new).log (D.seen terminal_copro.new)
-        (terminal_view terminal.new) (due_bytes due.new exchange.new.sent.items) (K.seen out.new) tally.new)) }
-    ensures broke { OnErr result (BrokeTurn requests.now
-        (standing (scene chip.old (E.device cells.old) (E.cells cells.old)) (C.seen chip_copro.old).log (D.seen terminal_copro.old)
-        (terminal_view terminal.old) (due_bytes due.old exchange.old.sent.items) (K.seen out.old) tally.old)
-        (standing (scene chip.new (E.device cells.new) (E.cells cells.new)) (C.seen chip_copro.new).log (D.seen terminal_copro.new)
-        (terminal_view terminal.new) (due_bytes due.new exchange.new.sent.items) (K.seen out.new) tally.new)) }
-    ensures sound { IsSound (scene chip.new (E.device cells.new) (E.cells cells.new)) }
-    ensures layout { slice_index (E.cells cells.new) 0 ≡ slice_index (E.cells cells.old) 0 }
-    ensures chip_told { (C.seen chip_copro.new).told ≡ (C.seen chip_copro.old).told }
-    ensures terminal_told { (D.seen terminal_copro.new).told ≡ (D.seen terminal_copro.old).told }
-    ensures sink { TellsFault (K.seen out.old) (K.seen out.new) result }
-    ensures answered { tally.new.answered ≤ tally.old.answered + 1 }
-    ensures refused { tally.new.refused ≤ tally.old.refused + 1 }
-{
-    if terminal_copro.make_room(QUESTIONS).is_err() {
-        return Err(RunError::NoMemory);
-    }
-    let action = terminal.next(due_reply(*due, exchange), terminal_copro);
-    if let Action::Send(bytes) = &action {
-        let Ok(replied) = answer(chip, bytes.as_slice(), cells, chip_copro, exchange) else {
+/// A terminal and a chip that talk: the chip, the terminal, the reply that is due, the requests of the plan, the text of the
+/// line that is told, and the results so far.
+#[derive(Drop)]
+struct Conversation {
+    stepper: Stepper,
+    terminal: Terminal,
+    due: Due,
+    requests: Vec<Request>,
+    text: Text,
+    tally: Tally,
+}
+
+impl Conversation {
+    /// Takes one turn: the terminal goes on, by the reply where one is due; its command is handed to the chip, and what it
+    /// tells is written and counted.
+    fn take_turn<E: Eeprom, C: Coprocessor, D: Coprocessor, K: Sink>(
+        &mut self,
+        cells: &mut E,
+        chip_copro: &mut C,
+        terminal_copro: &mut D,
+        out: &mut K,
+    ) -> Result<(), RunError>
+        requires sound { IsSound (scene self.old.stepper.chip (E.device cells.old) (E.cells cells.old)) }
+        requires answered { self.old.tally.answered + 1 < 2 ^ 32 }
+        requires refused { self.old.tally.refused + 1 < 2 ^ 32 }
+        requires going { (terminal_view self.old.terminal).ended ≡ false }
+        requires waits { is_some (due_bytes self.old.due self.old.stepper.exchange.sent.items) ≡ (terminal_view self.old.terminal).waits }
+        ensures did { OnOk result (DidTurn self.old.requests.items
+            (stands_at self.old (E.device cells.old) (E.cells cells.old) (C.seen chip_copro.old).log (D.seen terminal_copro.old) (K.seen out.old))
+            (stands_at self.new (E.device cells.new) (E.cells cells.new) (C.seen chip_copro.new).log (D.seen terminal_copro.new) (K.seen out.new))) }
+        ensures broke { OnErr result (BrokeTurn self.old.requests.items
+            (stands_at self.old (E.device cells.old) (E.cells cells.old) (C.seen chip_copro.old).log (D.seen terminal_copro.old) (K.seen out.old))
+            (stands_at self.new (E.device cells.new) (E.cells cells.new) (C.seen chip_copro.new).log (D.seen terminal_copro.new) (K.seen out.new))) }
+        ensures requests { self.new.requests.items ≡ self.old.requests.items }
+        ensures sound { IsSound (scene self.new.stepper.chip (E.device cells.new) (E.cells cells.new)) }
+        ensures layout { slice_index (E.cells cells.new) 0 ≡ slice_index (E.cells cells.old) 0 }
+        ensures chip_told { (C.seen chip_copro.new).told ≡ (C.seen chip_copro.old).told }
+        ensures terminal_told { (D.seen terminal_copro.new).told ≡ (D.seen terminal_copro.old).told }
+        ensures sink { TellsFault (K.seen out.old) (K.seen out.new) result }
+        ensures answered { self.new.tally.answered ≤ self.old.tally.answered + 1 }
+        ensures refused { self.new.tally.refused ≤ self.old.tally.refused + 1 }
+    {
+        if terminal_copro.make_room(QUESTIONS).is_err() {
             return Err(RunError::NoMemory);
-        };
-        *due = replied;
-        return Ok(());
+        }
+        let action = self
+            .terminal
+            .next(due_reply(self.due, &self.stepper), terminal_copro);
+        if let Action::Send(bytes) = &action {
+            let Ok(replied) = answer(&mut self.stepper, bytes.as_slice(), cells, chip_copro) else {
+                return Err(RunError::NoMemory);
+            };
+            self.due = replied;
+            return Ok(());
+        }
+        self.due = Due::Nothing;
+        self.tally.count(&action);
+        tell(self.requests.as_slice(), &action, &mut self.text, out)
     }
-    *due = Due::Nothing;
-    tally.count(&action);
-    tell(requests, &action, text, out)
 }
 
 /// Runs a terminal and a chip together, writes what the terminal tells, and counts the results.
@@ -208,35 +214,29 @@ pub fn converse<E: Eeprom, C: Coprocessor, D: Coprocessor, K: Sink>(
         (D.seen terminal_copro.old) (D.seen terminal_copro.new)) }
     ensures sink { TellsFault (K.seen out.old) (K.seen out.new) result }
 {
-    let mut chip = Chip::new();
+    let mut stepper = Stepper::new(alloc);
     let mut requests = Vec::new(alloc);
     let Ok(()) = requests.extend_from_slice(plan.requests.as_slice()) else {
         return Err(RunError::NoMemory);
     };
-    let mut terminal = Terminal::new(plan);
-    let mut due = Due::Nothing;
-    let mut exchange = Exchange::new();
-    let mut text = Text::new(alloc);
-    let mut tally = Tally::new();
-    power_on(&mut chip, cells);
+    let terminal = Terminal::new(plan);
+    let text = Text::new(alloc);
+    let tally = Tally::new();
+    stepper.power_on(cells);
+    let mut conversation = Conversation {
+        stepper,
+        terminal,
+        due: Due::Nothing,
+        requests,
+        text,
+        tally,
+    };
     for _ in 0..MOST_TURNS {
-        if let Err(error) = take_turn(
-            &mut chip,
-            &mut terminal,
-            &mut due,
-            requests.as_slice(),
-            cells,
-            chip_copro,
-            terminal_copro,
-            &mut exchange,
-            &mut text,
-            out,
-            &mut tally,
-        ) {
+        if let Err(error) = conversation.take_turn(cells, chip_copro, terminal_copro, out) {
             return Err(error);
         }
-        if terminal.ended() {
-            return Ok(tally);
+        if conversation.terminal.ended() {
+            return Ok(conversation.tally);
         }
     }
     unreachable!()

@@ -3,24 +3,25 @@ use Rattle.std.proofs.Common.{◌≡◌, None, List, ℕ, ◌+◌, ◌++◌, suc
 use Rattle.eid_base.specs.declared.codes.RunError.TheVariants.{SinkFault}
 use Rattle.eid_store.specs.Stands.{stands}
 use Rattle.eid_chip.specs.Fits.{scene}
-use Rattle.eid_model.specs.View as view
+use Rattle.eid_model.specs.Moments.{PoweredOn}
 use Rattle.eid_terminal.specs.declared.plan.Request.{Request}
 use Rattle.eid_terminal.specs.Plans.{plan_view}
 use Rattle.eid_terminal.specs.Seen.{terminal_view}
 use Rattle.eid_terminal.specs.Terminals.{TerminalView, begun}
 use Rattle.eid_run.specs.Runs.{outside}
-use Rattle.eid_run.specs.Talk.{BrokeTurn, DidTurn, IsTalkSoFar, due_bytes, standing}
+use Rattle.eid_run.specs.Talk.{BrokeTurn, DidTurn, due_bytes, standing, stands_at}
 use Rattle.eid_run.specs.Tallies.{no_results}
 use Rattle.eid_run.specs.declared.tally.Tally.{Tally}
+use Rattle.eid_run.proofs.SoFar.{IsTalkSoFar}
 use Rattle.eid_run.proofs.Running.{some_of}
-use Rattle.eid_run.proofs.Talking.{some_mapped, talk_begun, talk_broke, talk_ended, talk_more, talk_untaken, too_many}
+use Rattle.eid_run.proofs.Talking.{fault_on, some_mapped, talk_begun, talk_broke, talk_ended, talk_more, talk_untaken, too_many}
 use Rattle.eid_run.proofs.session.converse.Goals as goal
 
 pub returns-in_default-clause-broke : goal.returns-in_default-clause-broke
 returns-in_default-clause-broke g c = λ opening stood.
-    talk_untaken (plan_view c.args.plan) opening c.new-chip.result
+    talk_untaken (plan_view c.args.plan) opening c.new-stepper.result.chip
     (outside (g.E.Eeprom.device c.args.cells.now) (g.E.Eeprom.cells c.args.cells.now) (g.C.Coprocessor.seen c.args.chip_copro.now) (g.K.Sink.seen c.args.out.now))
-    (g.D.Coprocessor.seen c.args.terminal_copro.now) (c.new-chip.ensures.fits (g.E.Eeprom.device c.args.cells.now) (g.E.Eeprom.cells c.args.cells.now) opening stood)
+    (g.D.Coprocessor.seen c.args.terminal_copro.now) (c.new-stepper.ensures.fits (g.E.Eeprom.device c.args.cells.now) (g.E.Eeprom.cells c.args.cells.now) opening stood)
 
 pub loop-init : goal.loop-init
 loop-init g c =
@@ -33,9 +34,9 @@ loop-init g c =
     let sink = g.K.Sink.seen c.args.out.now in
     record {
       talk = λ opening stood.
-          talk_begun plan opening start (scene c.new-chip.result (device c.args.cells.now) (cells c.args.cells.now)) (standing start log copro (begun plan) None sink no_results)
-          (standing (scene c.power_on.new.chip (device c.power_on.new.cells) (cells c.power_on.new.cells)) log copro (terminal_view c.new-terminal.result) None sink c.new-tally.result)
-          (view.event_ref c.power_on.result) (c.new-chip.ensures.fits (device c.args.cells.now) (cells c.args.cells.now) opening stood) refl (λ off is. off)
+          talk_begun plan opening start (scene c.new-stepper.result.chip (device c.args.cells.now) (cells c.args.cells.now)) (standing start log copro (begun plan) None sink no_results)
+          (standing (scene c.power_on.new.self.chip (device c.power_on.new.cells) (cells c.power_on.new.cells)) log copro (terminal_view c.new-terminal.result) None sink c.new-tally.result)
+          (PoweredOn c.power_on.result) (c.new-stepper.ensures.fits (device c.args.cells.now) (cells c.args.cells.now) opening stood) refl (λ off is. off)
           (c.power_on.ensures.made log) c.power_on.ensures.keeps c.new-terminal.ensures refl refl refl refl c.new-tally.ensures;
       going = ap (λ (t : TerminalView). t.ended) c.new-terminal.ensures;
       requests = c.in-Ok.ensures.items ∙ ap (λ (l : List Request). l ++ c.as_slice.result.now) c.new-requests.ensures.items ∙ c.as_slice.ensures.value;
@@ -53,7 +54,7 @@ pub take_turn-requires-clause-waits : goal.take_turn-requires-clause-waits
 take_turn-requires-clause-waits g c =
     let found = some_of (stands (g.E.Eeprom.cells c.args.cells.now)) c.requires.stands in
     let so = c.loop.invariant.talk found.0 found.1 in
-    some_mapped so.pending (due_bytes c.loop.due c.loop.exchange.sent.items) so.due_is ∙ sym so.waits
+    some_mapped so.pending (due_bytes c.loop.conversation.due c.loop.conversation.stepper.exchange.sent.items) so.due_is ∙ sym so.waits
 
 pub returns-in-Err-clause-broke : goal.returns-in-Err-clause-broke
 returns-in-Err-clause-broke g c = λ opening stood.
@@ -63,16 +64,16 @@ returns-in-Err-clause-broke g c = λ opening stood.
     let terminal = g.D.Coprocessor.seen in
     let sink = g.K.Sink.seen in
     let plan = plan_view c.args.plan in
-    let was = standing (scene c.loop.chip (device c.loop.cells) (cells c.loop.cells)) (chip c.loop.chip_copro).log (terminal c.loop.terminal_copro) (terminal_view c.loop.terminal) (due_bytes c.loop.due c.loop.exchange.sent.items) (sink c.loop.out) c.loop.tally in
-    let now = standing (scene c.take_turn.new.chip (device c.take_turn.new.cells) (cells c.take_turn.new.cells)) (chip c.take_turn.new.chip_copro).log (terminal c.take_turn.new.terminal_copro) (terminal_view c.take_turn.new.terminal) (due_bytes c.take_turn.new.due c.take_turn.new.exchange.sent.items) (sink c.take_turn.new.out) c.take_turn.new.tally in
-    talk_broke plan opening (record { running = None }) c.loop.chip c.take_turn.new.chip
+    let was = stands_at c.loop.conversation (device c.loop.cells) (cells c.loop.cells) (chip c.loop.chip_copro).log (terminal c.loop.terminal_copro) (sink c.loop.out) in
+    let now = stands_at c.take_turn.new.self (device c.take_turn.new.cells) (cells c.take_turn.new.cells) (chip c.take_turn.new.chip_copro).log (terminal c.take_turn.new.terminal_copro) (sink c.take_turn.new.out) in
+    talk_broke plan opening (record { running = None }) c.loop.conversation.stepper.chip c.take_turn.new.self.stepper.chip
     (outside (device c.args.cells.now) (cells c.args.cells.now) (chip c.args.chip_copro.now) (sink c.args.out.now))
     (outside (device c.loop.cells) (cells c.loop.cells) (chip c.loop.chip_copro) (sink c.loop.out))
     (outside (device c.take_turn.new.cells) (cells c.take_turn.new.cells) (chip c.take_turn.new.chip_copro) (sink c.take_turn.new.out))
     (terminal c.args.terminal_copro.now) (terminal c.loop.terminal_copro) (terminal c.take_turn.new.terminal_copro)
-    (begun plan) (terminal_view c.loop.terminal) (terminal_view c.take_turn.new.terminal) None (due_bytes c.loop.due c.loop.exchange.sent.items) (due_bytes c.take_turn.new.due c.take_turn.new.exchange.sent.items) c.loop.tally c.take_turn.new.tally c.loop.counter
+    (begun plan) (terminal_view c.loop.conversation.terminal) (terminal_view c.take_turn.new.self.terminal) None (due_bytes c.loop.conversation.due c.loop.conversation.stepper.exchange.sent.items) (due_bytes c.take_turn.new.self.due c.take_turn.new.self.stepper.exchange.sent.items) c.loop.conversation.tally c.take_turn.new.self.tally c.loop.counter
     (c.loop.invariant.talk opening stood) c.loop.invariant.going c.loop.invariant.tells
-    (subst (λ (l : List Request). BrokeTurn l was now) (c.as_slice-in-loop.ensures.value ∙ c.loop.invariant.requests) c.in-Err.ensures.broke)
+    (subst (λ (l : List Request). BrokeTurn l was now) c.loop.invariant.requests c.in-Err.ensures.broke)
     (c.take_turn.ensures.chip_told ∙ c.loop.invariant.chip_told) (c.take_turn.ensures.layout ∙ c.loop.invariant.layout) (c.take_turn.ensures.terminal_told ∙ c.loop.invariant.terminal_told)
 
 pub returns-then-ended-clause-did : goal.returns-then-ended-clause-did
@@ -85,13 +86,13 @@ returns-then-ended-clause-did g c = λ opening stood.
     let plan = plan_view c.args.plan in
     let start = scene (record { running = None }) (device c.args.cells.now) (cells c.args.cells.now) in
     let first = standing start (chip c.args.chip_copro.now).log (terminal c.args.terminal_copro.now) (begun plan) None (sink c.args.out.now) no_results in
-    let was = standing (scene c.loop.chip (device c.loop.cells) (cells c.loop.cells)) (chip c.loop.chip_copro).log (terminal c.loop.terminal_copro) (terminal_view c.loop.terminal) (due_bytes c.loop.due c.loop.exchange.sent.items) (sink c.loop.out) c.loop.tally in
-    let now = standing (scene c.take_turn.new.chip (device c.take_turn.new.cells) (cells c.take_turn.new.cells)) (chip c.take_turn.new.chip_copro).log (terminal c.take_turn.new.terminal_copro) (terminal_view c.take_turn.new.terminal) (due_bytes c.take_turn.new.due c.take_turn.new.exchange.sent.items) (sink c.take_turn.new.out) c.take_turn.new.tally in
-    let did = subst (λ (l : List Request). DidTurn l was now) (c.as_slice-in-loop.ensures.value ∙ c.loop.invariant.requests) c.in_default-take_turn.ensures.did in
-    talk_ended plan opening (record { running = None }) c.take_turn.new.chip
+    let was = stands_at c.loop.conversation (device c.loop.cells) (cells c.loop.cells) (chip c.loop.chip_copro).log (terminal c.loop.terminal_copro) (sink c.loop.out) in
+    let now = stands_at c.take_turn.new.self (device c.take_turn.new.cells) (cells c.take_turn.new.cells) (chip c.take_turn.new.chip_copro).log (terminal c.take_turn.new.terminal_copro) (sink c.take_turn.new.out) in
+    let did = subst (λ (l : List Request). DidTurn l was now) c.loop.invariant.requests c.in_default-take_turn.ensures.did in
+    talk_ended plan opening (record { running = None }) c.take_turn.new.self.stepper.chip
     (outside (device c.args.cells.now) (cells c.args.cells.now) (chip c.args.chip_copro.now) (sink c.args.out.now))
     (outside (device c.take_turn.new.cells) (cells c.take_turn.new.cells) (chip c.take_turn.new.chip_copro) (sink c.take_turn.new.out))
-    (terminal c.args.terminal_copro.now) (terminal c.take_turn.new.terminal_copro) (begun plan) (terminal_view c.take_turn.new.terminal) None (due_bytes c.take_turn.new.due c.take_turn.new.exchange.sent.items) c.take_turn.new.tally (suc c.loop.counter)
+    (terminal c.args.terminal_copro.now) (terminal c.take_turn.new.terminal_copro) (begun plan) (terminal_view c.take_turn.new.self.terminal) None (due_bytes c.take_turn.new.self.due c.take_turn.new.self.stepper.exchange.sent.items) c.take_turn.new.self.tally (suc c.loop.counter)
     (talk_more plan opening start first was now c.loop.counter (c.loop.invariant.talk opening stood) c.loop.invariant.going c.loop.invariant.tells did) (sym c.ended.ensures ∙ c.if-ended.true)
     (c.take_turn.ensures.chip_told ∙ c.loop.invariant.chip_told) (c.take_turn.ensures.layout ∙ c.loop.invariant.layout) (c.take_turn.ensures.terminal_told ∙ c.loop.invariant.terminal_told)
 
@@ -105,15 +106,15 @@ loop-preserved g c =
     let plan = plan_view c.args.plan in
     let start = scene (record { running = None }) (device c.args.cells.now) (cells c.args.cells.now) in
     let first = standing start (chip c.args.chip_copro.now).log (terminal c.args.terminal_copro.now) (begun plan) None (sink c.args.out.now) no_results in
-    let was = standing (scene c.loop.chip (device c.loop.cells) (cells c.loop.cells)) (chip c.loop.chip_copro).log (terminal c.loop.terminal_copro) (terminal_view c.loop.terminal) (due_bytes c.loop.due c.loop.exchange.sent.items) (sink c.loop.out) c.loop.tally in
-    let now = standing (scene c.take_turn.new.chip (device c.take_turn.new.cells) (cells c.take_turn.new.cells)) (chip c.take_turn.new.chip_copro).log (terminal c.take_turn.new.terminal_copro) (terminal_view c.take_turn.new.terminal) (due_bytes c.take_turn.new.due c.take_turn.new.exchange.sent.items) (sink c.take_turn.new.out) c.take_turn.new.tally in
-    let did = subst (λ (l : List Request). DidTurn l was now) (c.as_slice-in-loop.ensures.value ∙ c.loop.invariant.requests) c.in_default-take_turn.ensures.did in
+    let was = stands_at c.loop.conversation (device c.loop.cells) (cells c.loop.cells) (chip c.loop.chip_copro).log (terminal c.loop.terminal_copro) (sink c.loop.out) in
+    let now = stands_at c.take_turn.new.self (device c.take_turn.new.cells) (cells c.take_turn.new.cells) (chip c.take_turn.new.chip_copro).log (terminal c.take_turn.new.terminal_copro) (sink c.take_turn.new.out) in
+    let did = subst (λ (l : List Request). DidTurn l was now) c.loop.invariant.requests c.in_default-take_turn.ensures.did in
     let one_more : suc c.loop.counter ≡ c.loop.counter + 1 = omega arith in
     record {
       talk = λ opening stood. subst (λ (n : ℕ). IsTalkSoFar plan opening start first now n) one_more
           (talk_more plan opening start first was now c.loop.counter (c.loop.invariant.talk opening stood) c.loop.invariant.going c.loop.invariant.tells did);
       going = sym c.ended.ensures ∙ c.if-ended.false;
-      requests = c.loop.invariant.requests;
+      requests = c.take_turn.ensures.requests ∙ c.loop.invariant.requests;
       sound = c.take_turn.ensures.sound;
       layout = c.take_turn.ensures.layout ∙ c.loop.invariant.layout;
       chip_told = c.take_turn.ensures.chip_told ∙ c.loop.invariant.chip_told;
@@ -134,6 +135,10 @@ unreachable-requires g c =
     let plan = plan_view c.args.plan in
     let start = scene (record { running = None }) (device c.args.cells.now) (cells c.args.cells.now) in
     let first = standing start (chip c.args.chip_copro.now).log (terminal c.args.terminal_copro.now) (begun plan) None (sink c.args.out.now) no_results in
-    let at = standing (scene c.loop.chip (device c.loop.cells) (cells c.loop.cells)) (chip c.loop.chip_copro).log (terminal c.loop.terminal_copro) (terminal_view c.loop.terminal) (due_bytes c.loop.due c.loop.exchange.sent.items) (sink c.loop.out) c.loop.tally in
+    let at = stands_at c.loop.conversation (device c.loop.cells) (cells c.loop.cells) (chip c.loop.chip_copro).log (terminal c.loop.terminal_copro) (sink c.loop.out) in
     let found = some_of (stands (cells c.args.cells.now)) c.requires.stands in
     too_many plan found.0 start first at c.loop.counter c.requires.fit (c.loop.invariant.talk found.0 found.1) c.loop.invariant.going c.loop-test.false
+
+pub returns-in-Err-clause-sink : goal.returns-in-Err-clause-sink
+returns-in-Err-clause-sink g c =
+    fault_on (g.K.Sink.seen c.args.out.now) (g.K.Sink.seen c.loop.out) (g.K.Sink.seen c.take_turn.new.out) c.in-Err.error c.loop.invariant.tells c.loop.invariant.still c.in-Err.ensures.sink

@@ -6,8 +6,9 @@ use Rattle.eid_chip.specs.Fits.{IsSound, scene}
 use Rattle.eid_terminal.specs.Plans.{plan_view}
 use Rattle.eid_terminal.specs.Seen.{terminal_view}
 use Rattle.eid_terminal.specs.Terminals.{begun}
-use Rattle.eid_run.specs.Talk.{IsTalkSoFar, due_bytes, standing}
+use Rattle.eid_run.specs.Talk.{standing, stands_at}
 use Rattle.eid_run.specs.Tallies.{no_results}
+use Rattle.eid_run.proofs.SoFar.{IsTalkSoFar}
 use Rattle.eid_run.proofs.session.converse.Given as goal
 
 -- the session so far, which has not ended
@@ -23,15 +24,15 @@ invariant-loop g l =
     record {
       talk : (opening : FullRecord) → stands (cells l.fn.cells) ≡ Some opening → IsTalkSoFar plan opening start
           (standing start (chip_copro l.fn.chip_copro).log (terminal_copro l.fn.terminal_copro) (begun plan) None (seen l.fn.out) no_results)
-          (standing (scene l.chip (device l.cells) (cells l.cells)) (chip_copro l.chip_copro).log (terminal_copro l.terminal_copro) (terminal_view l.terminal) (due_bytes l.due l.exchange.sent.items) (seen l.out) l.tally) l.counter;
-      going : (terminal_view l.terminal).ended ≡ false;
-      requests : l.requests.items ≡ l.fn.plan.requests.items;
-      sound : IsSound (scene l.chip (device l.cells) (cells l.cells));
+          (stands_at l.conversation (device l.cells) (cells l.cells) (chip_copro l.chip_copro).log (terminal_copro l.terminal_copro) (seen l.out)) l.counter;
+      going : (terminal_view l.conversation.terminal).ended ≡ false;
+      requests : l.conversation.requests.items ≡ l.fn.plan.requests.items;
+      sound : IsSound (scene l.conversation.stepper.chip (device l.cells) (cells l.cells));
       layout : slice_index (cells l.cells) 0 ≡ slice_index (cells l.fn.cells) 0;
       chip_told : (chip_copro l.chip_copro).told ≡ (chip_copro l.fn.chip_copro).told;
       terminal_told : (terminal_copro l.terminal_copro).told ≡ (terminal_copro l.fn.terminal_copro).told;
       tells : (seen l.out).tells ≡ (seen l.fn.out).tells;
       still : (seen l.out).faults ≡ (seen l.fn.out).faults;
-      answered : l.tally.answered ≤ l.counter;
-      refused : l.tally.refused ≤ l.counter;
+      answered : l.conversation.tally.answered ≤ l.counter;
+      refused : l.conversation.tally.refused ≤ l.counter;
     }

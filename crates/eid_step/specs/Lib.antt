@@ -1,0 +1,4 @@
+pub mod Sinks
+pub mod Effects
+pub mod Lines
+pub mod Sendable
