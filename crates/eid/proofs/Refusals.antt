@@ -2,11 +2,11 @@
 use Rattle.std.proofs.Common.{◌≡◌, ℕ, ◌≤◌, Bool, IsTrue, List, Result, Err, refl, ◌∙◌, subst, arith, inl, inr}
 use Rattle.eid_base.specs.Faults.{Rose}
 use Rattle.eid_base.specs.Seen.{FolderSeen, SinkSeen, SameFiles, SameOthers}
-use Rattle.eid.specs.declared.exit.Exit.{Exit}
-use Rattle.eid.specs.declared.exit.Exit.TheVariants.{Done, Usage, FileFault, NoMemory, BadImage, BadScript, BadConfig, SinkFault, BadAnswers}
+use Rattle.eid_inputs.specs.declared.exit.Exit.{Exit}
+use Rattle.eid_inputs.specs.declared.exit.Exit.TheVariants.{Done, Usage, FileFault, NoMemory, BadImage, BadScript, BadConfig, SinkFault, BadAnswers}
 use Rattle.eid.specs.Commands.{Command}
-use Rattle.eid.specs.Inputs.{expected}
-use Rattle.eid.specs.Loads.{IsRefused}
+use Rattle.eid.specs.Expected.{expected}
+use Rattle.eid_inputs.specs.Loads.{IsRefused}
 use Rattle.eid.specs.Sinks.{WroteNothing}
 use Rattle.eid.specs.Works.{HasReason, DidNothing, IsEnd, Meets}
 

@@ -5,7 +5,7 @@ ghost use Rattle.eid.specs.Words.{command};
 ghost use Rattle.eid.specs.Works.{Meets, NamesFaults, IsIdle};
 
 use crate::big::big;
-use crate::exit::Exit;
+use eid_inputs::Exit;
 use crate::kit::kit;
 use crate::make::make;
 use crate::replay::replay;

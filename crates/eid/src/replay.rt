@@ -2,8 +2,7 @@
 ghost use Rattle.eid.specs.Commands.{Replay};
 ghost use Rattle.eid.specs.Works.{Meets, NamesFaults};
 
-use crate::exit::Exit;
-use crate::load::{load, load_image};
+use eid_inputs::{Exit, load, load_image};
 use crate::run::run_and_store;
 use eid_base::{Folder, Sink};
 use eid_copro::{Answer, ScriptCoprocessor};

@@ -10,9 +10,7 @@ ghost use Rattle.eid_run.specs.Talk.{HasSource};
 ghost use Rattle.eid.specs.Ends.{IsEndOfRun, setup};
 ghost use Rattle.eid.specs.Works.{Meets, NamesFaults};
 
-use crate::exit::Exit;
-use crate::load::{load, load_image};
-use crate::storing::store_file;
+use eid_inputs::{Exit, load, load_image, store_file};
 use eid_base::{Folder, Sink};
 use eid_cells::MemoryEeprom;
 use eid_copro::{Coprocessor, ModelCoprocessor};
