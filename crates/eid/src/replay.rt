@@ -2,10 +2,10 @@
 ghost use Rattle.eid.specs.Commands.{Replay};
 ghost use Rattle.eid.specs.Works.{Meets, NamesFaults};
 
-use eid_inputs::{Exit, load, load_image};
 use crate::run::run_and_store;
 use eid_base::{Folder, Sink};
 use eid_copro::{Answer, ScriptCoprocessor};
+use eid_inputs::{Exit, load, load_image};
 use eid_script::Line;
 use std::alloc::Global;
 

@@ -10,10 +10,10 @@ ghost use Rattle.eid_run.specs.Talk.{HasSource};
 ghost use Rattle.eid.specs.Ends.{IsEndOfRun, setup};
 ghost use Rattle.eid.specs.Works.{Meets, NamesFaults};
 
-use eid_inputs::{Exit, load, load_image, store_file};
 use eid_base::{Folder, Sink};
 use eid_cells::MemoryEeprom;
 use eid_copro::{Coprocessor, ModelCoprocessor};
+use eid_inputs::{Exit, load, load_image, store_file};
 use eid_run::run_script;
 use eid_script::Line;
 use std::alloc::Global;

@@ -107,7 +107,8 @@ pub fn load_image<F: Folder>(alloc: Global, folder: &mut F, name: &str) -> Resul
 
 /// Reads an input from its file.
 pub fn load<I: Input, F: Folder>(alloc: Global, folder: &mut F, name: &str) -> Result<I, Exit>
-    ensures found { IfOk result (λ input. IsTrue (F.seen folder.old).tells → in_file I.said ((F.seen folder.old).file name.now) ≡ Ok (I.plain input)) }
+    ensures found { IfOk result (λ input. IsTrue (F.seen folder.old).tells
+        → in_file I.said ((F.seen folder.old).file name.now) ≡ Ok (I.plain input)) }
     ensures valid { IfOk result I.valid }
     ensures refused { IfErr result (λ e. IsRefused (F.seen folder.old).tells (in_file I.said ((F.seen folder.old).file name.now)) (Rose (F.seen folder.old).faults
         (F.seen folder.new).faults) e) }
