@@ -13,7 +13,7 @@ ghost use Rattle.eid.specs.Works.{Meets, NamesFaults};
 use eid_base::{Folder, Sink};
 use eid_cells::MemoryEeprom;
 use eid_copro::{Coprocessor, ModelCoprocessor};
-use eid_inputs::{Exit, load, load_image, store_file};
+use eid_inputs::{Exit, load_both, store_file};
 use eid_run::run_script;
 use eid_script::Line;
 use std::alloc::Global;
@@ -59,12 +59,8 @@ pub fn run<F: Folder, K: Sink>(
     ensures meets { Meets (Run image.now script.now start) (F.seen folder.old) (F.seen folder.new) (K.seen out.old) (K.seen out.new) result }
     ensures faults { NamesFaults (F.seen folder.old) (F.seen folder.new) (K.seen out.old) (K.seen out.new) result }
 {
-    let cells = match load_image(alloc, folder, image) {
-        Ok(cells) => cells,
-        Err(exit) => return exit,
-    };
-    let lines = match load::<Vec<Line>, F>(alloc, folder, script) {
-        Ok(lines) => lines,
+    let (cells, lines) = match load_both::<Vec<Line>, F>(alloc, folder, image, script) {
+        Ok(both) => both,
         Err(exit) => return exit,
     };
     let mut copro = ModelCoprocessor::new(alloc, start);

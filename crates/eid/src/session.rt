@@ -14,7 +14,7 @@ ghost use Rattle.eid.specs.Works.{Meets, NamesFaults};
 use eid_base::{Folder, Sink};
 use eid_cells::MemoryEeprom;
 use eid_copro::{Coprocessor, ModelCoprocessor};
-use eid_inputs::{Exit, load, load_image, store_file};
+use eid_inputs::{Exit, load_both, store_file};
 use eid_run::run_session;
 use eid_terminal::{Plan, law_has_sizes};
 use std::alloc::Global;
@@ -64,12 +64,8 @@ pub fn session<F: Folder, K: Sink>(
     ensures meets { Meets (Session image.now terminal.now start) (F.seen folder.old) (F.seen folder.new) (K.seen out.old) (K.seen out.new) result }
     ensures faults { NamesFaults (F.seen folder.old) (F.seen folder.new) (K.seen out.old) (K.seen out.new) result }
 {
-    let cells = match load_image(alloc, folder, image) {
-        Ok(cells) => cells,
-        Err(exit) => return exit,
-    };
-    let plan = match load::<Plan, F>(alloc, folder, terminal) {
-        Ok(plan) => plan,
+    let (cells, plan) = match load_both::<Plan, F>(alloc, folder, image, terminal) {
+        Ok(both) => both,
         Err(exit) => return exit,
     };
     let mut chip_copro = ModelCoprocessor::new(alloc, start);

@@ -8,7 +8,7 @@ use Rattle.eid_perso.specs.Config.{PlainConfig}
 use Rattle.eid_perso.specs.Kit.{PlainKit}
 use Rattle.eid_terminal.specs.Plans.{PlainPlan}
 use Rattle.eid_inputs.specs.declared.exit.Exit.{Exit}
-use Rattle.eid_inputs.specs.declared.exit.Exit.TheVariants.{Done, FileFault, BadImage, BadScript, BadConfig, BadAnswers}
+use Rattle.eid_inputs.specs.declared.exit.Exit.TheVariants.{FileFault, BadImage, BadScript, BadConfig, BadAnswers}
 use Rattle.eid_perso.specs.Reading.{config_of, kit_of_text, plan_of_text}
 use Rattle.eid_inputs.specs.Images.{record_of}
 

@@ -1,6 +1,6 @@
 -- Inside: cited by private contracts alone.
 -- What the reading of an input gives.
-use Rattle.std.specs.Prelude.{◌≡◌, ℕ, Bool, IsTrue, List, Option, None, Result, Err, ◌⊎◌, IsSome}
+use Rattle.std.specs.Prelude.{◌≡◌, ℕ, Bool, IsTrue, List, Option, None, Result, Err, ◌⊎◌, IsSome, IsOk}
 use Rattle.eid_inputs.specs.declared.exit.Exit.{Exit}
 use Rattle.eid_inputs.specs.declared.exit.Exit.TheVariants.{Done, Usage, FileFault, NoMemory, BadImage, BadScript, BadConfig, SinkFault, BadAnswers}
 
@@ -27,6 +27,10 @@ IsRefused tells input rose BadImage = IsTrue tells → input ≡ Err BadImage
 IsRefused tells input rose (BadScript line) = IsTrue tells → input ≡ Err (BadScript line)
 IsRefused tells input rose (BadConfig key) = IsTrue tells → input ≡ Err (BadConfig key)
 IsRefused tells input rose (BadAnswers line) = IsTrue tells → input ≡ Err (BadAnswers line)
+
+-- the first of two inputs was refused, or the second one, behind a first that is good
+abbrev pub IsFirstRefused : {A B : Type 0} → Bool → Result A Exit → Result B Exit → Type 0 → Exit → Type 0
+IsFirstRefused tells first second rose e = IsRefused tells first rose e ⊎ ((IsTrue tells → IsOk first) × IsRefused tells second rose e)
 
 -- the exit names the line of a script, the key of a configuration, or the line of the answers, that is none
 abbrev pub IsBad : {A : Type 0} → Exit → Result A Exit → Type 0

@@ -10,7 +10,7 @@ mod storing;
 mod words;
 
 pub use exit::Exit;
-pub use loading::{IMAGE_SIZE, Input, load, load_image};
+pub use loading::{IMAGE_SIZE, Input, load, load_both, load_image};
 pub use numbers::number;
 pub use storing::store_file;
 pub use words::arguments;

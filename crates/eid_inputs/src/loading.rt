@@ -6,7 +6,7 @@ ghost use Rattle.eid_store.specs.Stands.{stands};
 ghost use Rattle.eid_inputs.specs.declared.exit.Exit.{Exit as ExitSeen};
 ghost use Rattle.eid_inputs.specs.Images.{record_of};
 ghost use Rattle.eid_inputs.specs.Inputs.{image_in, in_file};
-ghost use Rattle.eid_inputs.specs.Loads.{IsUnread, IsRefused, IsBad};
+ghost use Rattle.eid_inputs.specs.Loads.{IsUnread, IsRefused, IsFirstRefused, IsBad};
 
 use crate::exit::Exit;
 use eid_base::{Folder, IoError, NoMemory};
@@ -119,4 +119,27 @@ pub fn load<I: Input, F: Folder>(alloc: Global, folder: &mut F, name: &str) -> R
     I::law_front();
     let text = read_front(alloc, folder, name, TEXT_LIMIT)?;
     I::read(alloc, text.as_slice())
+}
+
+/// Reads an image, and then the input that is used with it.
+pub fn load_both<I: Input, F: Folder>(
+    alloc: Global,
+    folder: &mut F,
+    image: &str,
+    name: &str,
+) -> Result<(Vec<u8>, I), Exit>
+    ensures stands { IfOk result (λ both. (length both.0.items ≡ 65536) × IsSome (stands both.0.items)) }
+    ensures held { IfOk result (λ both. IsTrue (F.seen folder.old).tells → (F.seen folder.old).file image.now ≡ Some both.0.items) }
+    ensures found { IfOk result (λ both. IsTrue (F.seen folder.old).tells
+        → in_file I.said ((F.seen folder.old).file name.now) ≡ Ok (I.plain both.1)) }
+    ensures valid { IfOk result (λ both. I.valid both.1) }
+    ensures refused { IfErr result (λ e. IsFirstRefused (F.seen folder.old).tells (image_in ((F.seen folder.old).file image.now))
+        (in_file I.said ((F.seen folder.old).file name.now)) (Rose (F.seen folder.old).faults (F.seen folder.new).faults) e) }
+    ensures same { SameFiles (F.seen folder.old) (F.seen folder.new) }
+    ensures later { (F.seen folder.old).faults ≤ (F.seen folder.new).faults }
+    ensures still { ¬ IsErrOf result Exit.FileFault → (F.seen folder.new).faults ≡ (F.seen folder.old).faults }
+{
+    let cells = load_image(alloc, folder, image)?;
+    let input = load::<I, F>(alloc, folder, name)?;
+    Ok((cells, input))
 }
