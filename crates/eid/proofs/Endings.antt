@@ -4,11 +4,13 @@ use Rattle.eid_base.specs.declared.codes.RunError.{RunError}
 use Rattle.eid_base.specs.declared.codes.RunError.TheVariants as run
 use Rattle.eid_base.specs.Faults.{Rose}
 use Rattle.eid_base.specs.Seen.{FolderSeen, SinkSeen, SameFiles, SameOthers}
-use Rattle.eid.specs.declared.exit.Exit.{Exit}
-use Rattle.eid.specs.declared.exit.Exit.TheVariants.{Done, Usage, FileFault, NoMemory, BadImage, BadScript, BadConfig, SinkFault, BadAnswers}
+use Rattle.eid_inputs.specs.declared.exit.Exit.{Exit}
+use Rattle.eid_inputs.specs.declared.exit.Exit.TheVariants.{Done, Usage, FileFault, NoMemory, BadImage, BadScript, BadConfig, SinkFault, BadAnswers}
 use Rattle.eid.specs.Commands.{Command}
-use Rattle.eid.specs.Ends.{IsEndOf, IsLeftIn, IsStored, exit_broken}
-use Rattle.eid.specs.Inputs.{expected}
+use Rattle.eid.specs.Ends.{IsEndOf}
+use Rattle.eid_inputs.specs.Storing.{IsLeftIn, IsStored}
+use Rattle.eid_inputs.specs.Exits.{exit_broken}
+use Rattle.eid.specs.Expected.{expected}
 use Rattle.eid.specs.Works.{BrokeOff, Finished, Meets, NotStored}
 use Rattle.eid.proofs.Refusals.{rose_later, others_after}
 

@@ -5,11 +5,11 @@ use Rattle.eid_base.specs.declared.codes.RunError.TheVariants as run
 use Rattle.eid_base.specs.Faults.{Rose}
 use Rattle.eid_base.specs.Seen.{FolderSeen, SinkSeen, SameFiles}
 use Rattle.eid_run.specs.Big.{BrokeOffBig, DidBig, PartOfBig}
-use Rattle.eid.specs.declared.exit.Exit.TheVariants.{Done}
+use Rattle.eid_inputs.specs.declared.exit.Exit.TheVariants.{Done}
 use Rattle.eid.specs.Big.{BigBrokeOff}
 use Rattle.eid.specs.Commands.{Big}
-use Rattle.eid.specs.Ends.{exit_broken}
-use Rattle.eid.specs.Inputs.{expected}
+use Rattle.eid_inputs.specs.Exits.{exit_broken}
+use Rattle.eid.specs.Expected.{expected}
 use Rattle.eid.specs.Works.{DidNothing, Meets}
 use Rattle.eid.proofs.Refusals.{nothing_done}
 

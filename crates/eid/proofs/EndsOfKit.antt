@@ -5,13 +5,14 @@ use Rattle.eid_base.specs.Seen.{FolderSeen, SinkSeen, SameFiles}
 use Rattle.eid_cvc.specs.Certificates.{IsCertificate}
 use Rattle.eid_cvc.specs.Writing.{certificate_with, written_certificate}
 use Rattle.eid_perso.specs.Kit.{PlainKit}
-use Rattle.eid.specs.declared.exit.Exit.{Exit}
-use Rattle.eid.specs.declared.exit.Exit.TheVariants.{Done}
+use Rattle.eid_inputs.specs.declared.exit.Exit.{Exit}
+use Rattle.eid_inputs.specs.declared.exit.Exit.TheVariants.{Done}
 use Rattle.eid.specs.Commands.{Kit}
-use Rattle.eid.specs.Ends.{IsStored}
-use Rattle.eid.specs.Inputs.{kit_in, expected}
+use Rattle.eid_inputs.specs.Storing.{IsStored}
+use Rattle.eid_inputs.specs.Inputs.{kit_in}
+use Rattle.eid.specs.Expected.{expected}
 use Rattle.eid.specs.Kit.{IsCertificateOf, KitFinished, KitNotStored, kit_signature}
-use Rattle.eid.specs.Loads.{IsRefused}
+use Rattle.eid_inputs.specs.Loads.{IsRefused}
 use Rattle.eid.specs.Works.{Meets}
 use Rattle.eid.proofs.Endings.{after_storing, meets_by_end}
 use Rattle.eid.proofs.Refusals.{wrote_nothing, refused}

@@ -5,16 +5,17 @@ use Rattle.eid_base.specs.Seen.{FolderSeen, SinkSeen, SameFiles}
 use Rattle.eid_store.specs.Stands.{stands}
 use Rattle.eid_perso.specs.Config.{PlainConfig, full_record}
 use Rattle.eid_perso.specs.Image.{image}
-use Rattle.eid.specs.declared.exit.Exit.{Exit}
-use Rattle.eid.specs.declared.exit.Exit.TheVariants.{Done}
+use Rattle.eid_inputs.specs.declared.exit.Exit.{Exit}
+use Rattle.eid_inputs.specs.declared.exit.Exit.TheVariants.{Done}
 use Rattle.eid.specs.Commands.{Make}
-use Rattle.eid.specs.Ends.{IsStored}
-use Rattle.eid.specs.Inputs.{config_in, expected}
-use Rattle.eid.specs.Loads.{IsRefused}
+use Rattle.eid_inputs.specs.Storing.{IsStored}
+use Rattle.eid_inputs.specs.Inputs.{config_in}
+use Rattle.eid.specs.Expected.{expected}
+use Rattle.eid_inputs.specs.Loads.{IsRefused}
 use Rattle.eid.specs.Make.{IsImageOf, MakeFinished, MakeNotStored}
 use Rattle.eid.specs.Works.{Meets}
 use Rattle.eid.proofs.Endings.{after_storing, meets_by_end}
-use Rattle.eid.proofs.Reading.{record_of_cells}
+use Rattle.eid_inputs.proofs.Reading.{record_of_cells}
 use Rattle.eid.proofs.Refusals.{wrote_nothing, refused}
 
 expected_config : (config_name image_name : List ℕ) (files : List ℕ → Option (List ℕ)) (x : Exit) → config_in (files config_name) ≡ Err x → expected (Make config_name image_name) files ≡ x

@@ -22,18 +22,20 @@ use Rattle.eid_step.specs.Effects.{LineEffect, line_of}
 use Rattle.eid_run.specs.Runs.{lines_of, journal, outside, resting, DidLines, DidSomeLines}
 use Rattle.eid_run.specs.Talk.{HasSource}
 use Rattle.eid_run.proofs.Meeting.{answers_from}
-use Rattle.eid.specs.declared.exit.Exit.{Exit}
-use Rattle.eid.specs.declared.exit.Exit.TheVariants.{Done}
+use Rattle.eid_inputs.specs.declared.exit.Exit.{Exit}
+use Rattle.eid_inputs.specs.declared.exit.Exit.TheVariants.{Done}
 use Rattle.eid.specs.Commands.{Command, Run, Replay}
-use Rattle.eid.specs.Ends.{IsStored, exit_broken}
-use Rattle.eid.specs.Images.{record_of}
-use Rattle.eid.specs.Inputs.{image_in, script_in, answers_in, unless_refused, expected}
-use Rattle.eid.specs.Loads.{IsRefused}
+use Rattle.eid_inputs.specs.Storing.{IsStored}
+use Rattle.eid_inputs.specs.Exits.{exit_broken}
+use Rattle.eid_inputs.specs.Images.{record_of}
+use Rattle.eid_inputs.specs.Inputs.{image_in, script_in, answers_in}
+use Rattle.eid.specs.Expected.{unless_refused, expected}
+use Rattle.eid_inputs.specs.Loads.{IsRefused}
 use Rattle.eid.specs.Run.{Setup, IsGiven, RanWhole, RunFinished, RunBrokeOff, RunNotStored}
 use Rattle.eid.specs.Ends.{IsEndOfRun}
 use Rattle.eid.specs.Works.{Meets}
 use Rattle.eid.proofs.Endings.{Concludes, after_breaking, after_storing}
-use Rattle.eid.proofs.Reading.{image_of_cells, record_of_cells, record_long, some_of}
+use Rattle.eid_inputs.proofs.Reading.{image_of_cells, record_of_cells, record_long, some_of}
 use Rattle.eid.proofs.Refusals.{same_twice, refused, refused_later}
 
 -- The command reads an image and then a script, and what it ends in where these are good.

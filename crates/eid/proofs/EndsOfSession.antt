@@ -21,17 +21,20 @@ use Rattle.eid_run.proofs.Promising.{met_promised}
 use Rattle.eid_store.specs.Stands.{stands}
 use Rattle.eid_store.proofs.Laws.{complete}
 use Rattle.eid_terminal.specs.Plans.{HasSizes, IsFit, PlainPlan}
-use Rattle.eid.specs.declared.exit.Exit.{Exit}
-use Rattle.eid.specs.declared.exit.Exit.TheVariants.{Done}
+use Rattle.eid_inputs.specs.declared.exit.Exit.{Exit}
+use Rattle.eid_inputs.specs.declared.exit.Exit.TheVariants.{Done}
 use Rattle.eid.specs.Commands.{Session}
-use Rattle.eid.specs.Ends.{IsEndOfSession, IsStored, exit_broken}
-use Rattle.eid.specs.Inputs.{image_in, plan_in, expected}
-use Rattle.eid.specs.Loads.{IsRefused}
+use Rattle.eid.specs.Ends.{IsEndOfSession}
+use Rattle.eid_inputs.specs.Storing.{IsStored}
+use Rattle.eid_inputs.specs.Exits.{exit_broken}
+use Rattle.eid_inputs.specs.Inputs.{image_in, plan_in}
+use Rattle.eid.specs.Expected.{expected}
+use Rattle.eid_inputs.specs.Loads.{IsRefused}
 use Rattle.eid.specs.Session.{IsMeeting, SessionBrokeOff, SessionFinished, SessionNotStored}
 use Rattle.eid.specs.Works.{Meets}
 use Rattle.eid.proofs.Endings.{after_breaking, after_storing, meets_by_end}
 use Rattle.eid.proofs.EndsOfRun.{Opened}
-use Rattle.eid.proofs.Reading.{record_long}
+use Rattle.eid_inputs.proofs.Reading.{record_long}
 use Rattle.eid.proofs.Refusals.{refused, refused_later}
 
 -- the exits of inputs that are refused

@@ -8,15 +8,16 @@ use Rattle.eid_base.specs.Seen.{FolderSeen, SinkSeen, SameFiles, Grew, GrewByPar
 use Rattle.eid_record.specs.Plain.{FullRecord}
 use Rattle.eid_store.specs.Stands.{stands}
 use Rattle.eid_perso.specs.Show.{shown}
-use Rattle.eid.specs.declared.exit.Exit.{Exit}
-use Rattle.eid.specs.declared.exit.Exit.TheVariants.{Done}
+use Rattle.eid_inputs.specs.declared.exit.Exit.{Exit}
+use Rattle.eid_inputs.specs.declared.exit.Exit.TheVariants.{Done}
 use Rattle.eid.specs.Commands.{Show}
-use Rattle.eid.specs.Ends.{exit_not_printed}
-use Rattle.eid.specs.Inputs.{image_in, expected}
-use Rattle.eid.specs.Loads.{IsRefused}
+use Rattle.eid_inputs.specs.Exits.{exit_not_printed}
+use Rattle.eid_inputs.specs.Inputs.{image_in}
+use Rattle.eid.specs.Expected.{expected}
+use Rattle.eid_inputs.specs.Loads.{IsRefused}
 use Rattle.eid.specs.Show.{IsTextOf, ShowBrokeOff}
 use Rattle.eid.specs.Works.{Meets}
-use Rattle.eid.proofs.Reading.{image_read, record_of_cells, some_of}
+use Rattle.eid_inputs.proofs.Reading.{image_read, record_of_cells, some_of}
 use Rattle.eid.proofs.Refusals.{refused}
 
 expected_image : (image_name : List ℕ) (files : List ℕ → Option (List ℕ)) (x : Exit) → image_in (files image_name) ≡ Err x → expected (Show image_name) files ≡ x

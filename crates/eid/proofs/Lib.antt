@@ -5,6 +5,5 @@ pub mod EndsOfKit
 pub mod EndsOfRun
 pub mod EndsOfSession
 pub mod EndsOfShow
-pub mod Reading
 pub mod Refusals
 pub mod Spoken

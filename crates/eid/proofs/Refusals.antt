@@ -2,11 +2,12 @@
 use Rattle.std.proofs.Common.{◌≡◌, ℕ, ◌≤◌, Bool, IsTrue, List, Result, Err, refl, ◌∙◌, subst, arith, inl, inr}
 use Rattle.eid_base.specs.Faults.{Rose}
 use Rattle.eid_base.specs.Seen.{FolderSeen, SinkSeen, SameFiles, SameOthers}
-use Rattle.eid.specs.declared.exit.Exit.{Exit}
-use Rattle.eid.specs.declared.exit.Exit.TheVariants.{Done, Usage, FileFault, NoMemory, BadImage, BadScript, BadConfig, SinkFault, BadAnswers}
+use Rattle.eid_inputs.specs.declared.exit.Exit.{Exit}
+use Rattle.eid_inputs.specs.declared.exit.Exit.TheVariants.{Done, Usage, FileFault, NoMemory, BadImage, BadScript, BadConfig, SinkFault, BadAnswers}
 use Rattle.eid.specs.Commands.{Command}
-use Rattle.eid.specs.Inputs.{expected}
-use Rattle.eid.specs.Loads.{IsRefused}
+use Rattle.eid.specs.Expected.{expected, unless_refused}
+use Rattle.std.specs.Prelude.{IsOk, Ok}
+use Rattle.eid_inputs.specs.Loads.{IsFirstRefused, IsRefused}
 use Rattle.eid.specs.Sinks.{WroteNothing}
 use Rattle.eid.specs.Works.{HasReason, DidNothing, IsEnd, Meets}
 
@@ -71,6 +72,19 @@ pub refused_later : {A : Type 0} (c : Command) (old middle new : FolderSeen) (si
 refused_later c old middle new sink input e first later second refusal is = record {
   reason = reason_of e old.tells middle.tells input _ _ _ _ (λ t. rw first.tells t) (λ t. rw (← first.tells) t) (λ r. rose_later old.faults middle.faults new.faults later r) is refusal;
   end = end_of e middle.tells input _ c old new sink sink refusal (nothing_done old new sink (same_twice old middle new first second));
+}
+
+-- what is good passes on to what comes later
+passed : {A : Type 0} (first : Result A Exit) (later : Exit) → IsOk first → unless_refused first later ≡ later
+passed (Ok value) later good = refl
+passed (Err exit) later good = absurd good
+
+-- the first of two inputs was refused, or the second one
+pub either_refused : {A B : Type 0} (c : Command) (old new : FolderSeen) (sink : SinkSeen) (first : Result A Exit) (second : Result B Exit) (rest e : Exit) → SameFiles old new → IsFirstRefused old.tells first second (Rose old.faults new.faults) e → expected c old.file ≡ unless_refused first (unless_refused second rest) → Meets c old new sink sink e
+either_refused c old new sink first second rest e same (inl refusal) is = refused c old new sink first e same refusal (λ x said. is ∙ rw said refl)
+either_refused c old new sink first second rest e same (inr behind) is = record {
+  reason = reason_of e old.tells old.tells second _ _ _ _ (λ t. t) (λ t. t) (λ r. r) (λ x told said. is ∙ passed first _ (behind.0 told) ∙ rw said refl) behind.1;
+  end = end_of e old.tells second _ c old new sink sink behind.1 (nothing_done old new sink same);
 }
 
 -- the call of a command does not end in Usage

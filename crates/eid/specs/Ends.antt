@@ -6,8 +6,8 @@ use Rattle.eid_base.specs.Seen.{FolderSeen, SinkSeen, SameOthers, IsLeftBy}
 use Rattle.eid_record.specs.Plain.{FullRecord}
 use Rattle.eid_copro.specs.Told.{Source}
 use Rattle.eid_script.specs.Scripts.{ScriptLine}
-use Rattle.eid.specs.declared.exit.Exit.{Exit}
-use Rattle.eid.specs.declared.exit.Exit.TheVariants.{Done, Usage, FileFault, NoMemory, BadImage, BadScript, BadConfig, SinkFault, BadAnswers}
+use Rattle.eid_inputs.specs.declared.exit.Exit.{Exit}
+use Rattle.eid_inputs.specs.declared.exit.Exit.TheVariants.{Done, Usage, FileFault, NoMemory, BadImage, BadScript, BadConfig, SinkFault, BadAnswers}
 use Rattle.eid.specs.Run.{Setup, RunFinished, RunBrokeOff, RunNotStored}
 use Rattle.eid_run.specs.Meetings.{Meeting}
 use Rattle.eid.specs.Session.{SessionFinished, SessionBrokeOff, SessionNotStored}
@@ -20,21 +20,6 @@ use Rattle.eid_base.specs.declared.outside.IoError.TheVariants as io
 
 abbrev pub setup : FullRecord → List ℕ → List ScriptLine → Setup
 setup opening cells lines = record { opening = opening; cells = cells; lines = lines }
-
-abbrev pub IsLeftIn : (name bytes : List ℕ) → FolderSeen → FolderSeen → Type 0
-IsLeftIn name bytes old new = (IsTrue old.tells → IsLeftBy (old.file name) (new.file name) bytes) × SameOthers name old new
-
--- a file was stored, or it is left absent, old, or with a front of the bytes, by the exit
-abbrev pub IsStored : (name bytes : List ℕ) → FolderSeen → FolderSeen → Exit → Type 0
-IsStored name bytes old new Done = (IsTrue old.tells → new.file name ≡ Some bytes) × SameOthers name old new
-IsStored name bytes old new FileFault = IsLeftIn name bytes old new × Rose old.faults new.faults
-IsStored name bytes old new NoMemory = IsLeftIn name bytes old new
-IsStored name bytes old new SinkFault = ⊥
-IsStored name bytes old new Usage = ⊥
-IsStored name bytes old new BadImage = ⊥
-IsStored name bytes old new (BadScript line) = ⊥
-IsStored name bytes old new (BadConfig key) = ⊥
-IsStored name bytes old new (BadAnswers line) = ⊥
 
 -- how a command that had its inputs ended, by the exit: it did all, it broke off while it printed, or its file was not stored
 abbrev pub IsEndOf : (finished broke_off not_stored folder_rose sink_rose : Type 0) → Exit → Type 0
@@ -57,17 +42,3 @@ abbrev pub IsEndOfSession : (image : List ℕ) → (start : ℕ) → Meeting →
 IsEndOfSession image start s old middle new before now exit = IsEndOf (SessionFinished image start s old new before now)
     (SessionBrokeOff start s old new before now) (SessionNotStored image start s old new before now) (Rose middle.faults new.faults)
     (Rose before.faults now.faults) exit
-
--- the exits of a run that broke off, of a text that was not printed, and of a configuration that is refused
-abbrev pub exit_broken : RunError → Exit
-exit_broken run.SinkFault = SinkFault
-exit_broken run.NoMemory = NoMemory
-
-abbrev pub exit_not_printed : IoError → Exit
-exit_not_printed io.NoMemory = NoMemory
-exit_not_printed io.Absent = SinkFault
-exit_not_printed io.Fault = SinkFault
-
-abbrev pub exit_refused : ConfigError → Exit
-exit_refused (config.Bad key) = BadConfig key
-exit_refused config.NoMemory = NoMemory

@@ -7,7 +7,7 @@ use Rattle.eid_copro.specs.Numbers.{public_of}
 use Rattle.eid_cvc.specs.Certificates.{IsCertificate}
 use Rattle.eid_cvc.specs.Writing.{certificate_with, written_body, written_certificate}
 use Rattle.eid_perso.specs.Kit.{PlainKit}
-use Rattle.eid.specs.Inputs.{kit_in}
+use Rattle.eid_inputs.specs.Inputs.{kit_in}
 use Rattle.eid.specs.Sinks.{WroteNothing}
 
 -- the signature of the signer over the SHA-256 of the object 7F4E, as the model coprocessor gives it

@@ -1,14 +1,11 @@
 pub mod Big
 pub mod Commands
-pub mod Exits
-pub mod Images
-pub mod Inputs
-pub mod Loads
 pub mod Make
 pub mod Kit
 pub mod Run
 pub mod Session
 pub mod Ends
+pub mod Expected
 pub mod Show
 pub mod Sinks
 pub mod Words

@@ -3,8 +3,8 @@ use Rattle.std.specs.Prelude.{◌≡◌, ℕ, IsTrue, List, Some, Ok}
 use Rattle.eid_base.specs.Seen.{FolderSeen, SinkSeen, SameOthers, IsLeftBy}
 use Rattle.eid_perso.specs.Config.{PlainConfig, full_record}
 use Rattle.eid_perso.specs.Image.{image}
-use Rattle.eid.specs.Images.{record_of}
-use Rattle.eid.specs.Inputs.{config_in}
+use Rattle.eid_inputs.specs.Images.{record_of}
+use Rattle.eid_inputs.specs.Inputs.{config_in}
 use Rattle.eid.specs.Sinks.{WroteNothing}
 
 -- the cells of the image that a configuration asks for, which stand for its record

@@ -13,8 +13,8 @@ use Rattle.eid_model.specs.Legal.{IsOnlyJournal}
 use Rattle.eid_model.specs.Ledger.{kept, pending, MayHold}
 use Rattle.eid_script.specs.Scripts.{ScriptLine}
 use Rattle.eid_run.specs.Runs.{journal, has_plan, outside, resting, CutsAsPlanned, DidLines, DidSomeLines}
-use Rattle.eid.specs.Images.{record_of}
-use Rattle.eid.specs.Inputs.{image_in, script_in, answers_in}
+use Rattle.eid_inputs.specs.Images.{record_of}
+use Rattle.eid_inputs.specs.Inputs.{image_in, script_in, answers_in}
 
 -- What a run begins with: the opening record, the cells that stand for it, and the lines of the script.
 pub record Setup : Type 0 where

@@ -12,8 +12,8 @@ use Rattle.eid_run.specs.Meetings.{Coprocessors, Meeting, MetWhole, inverted}
 use Rattle.eid_run.specs.Promised.{FoundPoints, promised_report}
 use Rattle.eid_run.specs.Runs.{journal, outside, resting}
 use Rattle.eid_run.specs.Sessions.{DidPartOfSession}
-use Rattle.eid.specs.Images.{record_of}
-use Rattle.eid.specs.Inputs.{image_in, plan_in}
+use Rattle.eid_inputs.specs.Images.{record_of}
+use Rattle.eid_inputs.specs.Inputs.{image_in, plan_in}
 
 -- the files give it
 pub record IsMeeting (image terminal_name : List ℕ) (old : FolderSeen) (s : Meeting) : Type 0 where

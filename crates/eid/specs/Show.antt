@@ -3,7 +3,7 @@ use Rattle.std.specs.Prelude.{◌≡◌, ℕ, IsTrue, List, Some, slice_index}
 use Rattle.eid_base.specs.Seen.{FolderSeen, SinkSeen, SameFiles, Grew, GrewByPart}
 use Rattle.eid_record.specs.Plain.{FullRecord}
 use Rattle.eid_perso.specs.Show.{shown}
-use Rattle.eid.specs.Images.{record_of}
+use Rattle.eid_inputs.specs.Images.{record_of}
 
 -- the text of the record that an image stands for, and of the layout in its first byte
 pub record IsTextOf (image_name : List ℕ) (old : FolderSeen) (text : List ℕ) : Type 0 where

@@ -2,11 +2,11 @@
 use Rattle.std.specs.Prelude.{◌≡◌, ◌≢◌, Bool, IsTrue, ◌⊎◌}
 use Rattle.eid_base.specs.Faults.{Rose}
 use Rattle.eid_base.specs.Seen.{FolderSeen, SinkSeen, SameFiles}
-use Rattle.eid.specs.declared.exit.Exit.{Exit}
-use Rattle.eid.specs.declared.exit.Exit.TheVariants.{Done, Usage, FileFault, NoMemory, BadImage, BadScript, BadConfig, SinkFault, BadAnswers}
+use Rattle.eid_inputs.specs.declared.exit.Exit.{Exit}
+use Rattle.eid_inputs.specs.declared.exit.Exit.TheVariants.{Done, Usage, FileFault, NoMemory, BadImage, BadScript, BadConfig, SinkFault, BadAnswers}
 use Rattle.eid.specs.Big.{BigBrokeOff, BigFinished}
 use Rattle.eid.specs.Commands.{Command, Run, Replay, Session, Big, Make, Kit, Show}
-use Rattle.eid.specs.Inputs.{expected}
+use Rattle.eid.specs.Expected.{expected}
 use Rattle.eid.specs.Kit.{KitFinished, KitNotStored}
 use Rattle.eid.specs.Make.{MakeFinished, MakeNotStored}
 use Rattle.eid.specs.Run.{RunFinished, RunBrokeOff, RunNotStored, OfRun, OfReplay}

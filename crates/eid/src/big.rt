@@ -4,8 +4,8 @@ ghost use Rattle.eid_base.specs.Seen.{FolderSeen};
 ghost use Rattle.eid.specs.Commands.{Big};
 ghost use Rattle.eid.specs.Works.{Meets};
 
-use crate::exit::Exit;
 use eid_base::Sink;
+use eid_inputs::Exit;
 use eid_run::big_workload;
 use std::alloc::Global;
 

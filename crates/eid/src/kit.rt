@@ -9,11 +9,9 @@ ghost use Rattle.eid.specs.Commands.{Kit};
 ghost use Rattle.eid.specs.Kit.{kit_signature};
 ghost use Rattle.eid.specs.Works.{Meets};
 
-use crate::exit::Exit;
-use crate::load::load;
-use crate::storing::store_file;
 use eid_base::Folder;
 use eid_copro::{Coprocessor, ModelCoprocessor};
+use eid_inputs::{Exit, load, store_file};
 use eid_perso::{KitError, KitPlan, kit_of};
 use std::alloc::Global;
 

@@ -4,10 +4,8 @@ ghost use Rattle.eid_base.specs.Seen.{SinkSeen};
 ghost use Rattle.eid.specs.Commands.{Make};
 ghost use Rattle.eid.specs.Works.{Meets};
 
-use crate::exit::Exit;
-use crate::load::load;
-use crate::storing::store_file;
 use eid_base::Folder;
+use eid_inputs::{Exit, load, store_file};
 use eid_perso::{Config, image_of};
 use std::alloc::Global;
 

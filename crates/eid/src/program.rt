@@ -5,7 +5,6 @@ ghost use Rattle.eid.specs.Words.{command};
 ghost use Rattle.eid.specs.Works.{Meets, NamesFaults, IsIdle};
 
 use crate::big::big;
-use crate::exit::Exit;
 use crate::kit::kit;
 use crate::make::make;
 use crate::replay::replay;
@@ -14,6 +13,7 @@ use crate::session::session;
 use crate::show::show;
 use crate::words::{Words, read_words};
 use eid_base::{Folder, Sink};
+use eid_inputs::Exit;
 use std::alloc::Global;
 
 /// Does what a command asks for.

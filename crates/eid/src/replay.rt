@@ -2,11 +2,10 @@
 ghost use Rattle.eid.specs.Commands.{Replay};
 ghost use Rattle.eid.specs.Works.{Meets, NamesFaults};
 
-use crate::exit::Exit;
-use crate::load::{load, load_image};
 use crate::run::run_and_store;
 use eid_base::{Folder, Sink};
 use eid_copro::{Answer, ScriptCoprocessor};
+use eid_inputs::{Exit, load, load_both};
 use eid_script::Line;
 use std::alloc::Global;
 
@@ -23,12 +22,8 @@ pub fn replay<F: Folder, K: Sink>(
     ensures meets { Meets (Replay image.now script.now answers.now) (F.seen folder.old) (F.seen folder.new) (K.seen out.old) (K.seen out.new) result }
     ensures faults { NamesFaults (F.seen folder.old) (F.seen folder.new) (K.seen out.old) (K.seen out.new) result }
 {
-    let cells = match load_image(alloc, folder, image) {
-        Ok(cells) => cells,
-        Err(exit) => return exit,
-    };
-    let lines = match load::<Vec<Line>, F>(alloc, folder, script) {
-        Ok(lines) => lines,
+    let (cells, lines) = match load_both::<Vec<Line>, F>(alloc, folder, image, script) {
+        Ok(both) => both,
         Err(exit) => return exit,
     };
     let told = match load::<Vec<Answer>, F>(alloc, folder, answers) {

@@ -10,12 +10,10 @@ ghost use Rattle.eid_run.specs.Talk.{HasSource};
 ghost use Rattle.eid.specs.Ends.{IsEndOfRun, setup};
 ghost use Rattle.eid.specs.Works.{Meets, NamesFaults};
 
-use crate::exit::Exit;
-use crate::load::{load, load_image};
-use crate::storing::store_file;
 use eid_base::{Folder, Sink};
 use eid_cells::MemoryEeprom;
 use eid_copro::{Coprocessor, ModelCoprocessor};
+use eid_inputs::{Exit, load_both, store_file};
 use eid_run::run_script;
 use eid_script::Line;
 use std::alloc::Global;
@@ -61,12 +59,8 @@ pub fn run<F: Folder, K: Sink>(
     ensures meets { Meets (Run image.now script.now start) (F.seen folder.old) (F.seen folder.new) (K.seen out.old) (K.seen out.new) result }
     ensures faults { NamesFaults (F.seen folder.old) (F.seen folder.new) (K.seen out.old) (K.seen out.new) result }
 {
-    let cells = match load_image(alloc, folder, image) {
-        Ok(cells) => cells,
-        Err(exit) => return exit,
-    };
-    let lines = match load::<Vec<Line>, F>(alloc, folder, script) {
-        Ok(lines) => lines,
+    let (cells, lines) = match load_both::<Vec<Line>, F>(alloc, folder, image, script) {
+        Ok(both) => both,
         Err(exit) => return exit,
     };
     let mut copro = ModelCoprocessor::new(alloc, start);

@@ -11,12 +11,10 @@ ghost use Rattle.eid_run.specs.Talk.{HasSource};
 ghost use Rattle.eid.specs.Ends.{IsEndOfSession};
 ghost use Rattle.eid.specs.Works.{Meets, NamesFaults};
 
-use crate::exit::Exit;
-use crate::load::{load, load_image};
-use crate::storing::store_file;
 use eid_base::{Folder, Sink};
 use eid_cells::MemoryEeprom;
 use eid_copro::{Coprocessor, ModelCoprocessor};
+use eid_inputs::{Exit, load_both, store_file};
 use eid_run::run_session;
 use eid_terminal::{Plan, law_has_sizes};
 use std::alloc::Global;
@@ -39,7 +37,8 @@ fn meet_and_store<C: Coprocessor, D: Coprocessor, F: Folder, K: Sink>(
     requires chip_log { (C.seen chip_copro.old).log ≡ [] }
     requires terminal_log { (D.seen terminal_copro.old).log ≡ [] }
     ensures ends { (old : FolderSeen) (start : ℕ) (opening : FullRecord) → SameFiles old (F.seen folder.old)
-        → HasSource (C.seen chip_copro.old).told (model_answer start) → HasSource (D.seen terminal_copro.old).told (model_answer (inverted start)) → stands cells.items ≡ Some opening
+        → HasSource (C.seen chip_copro.old).told (model_answer start)
+        → HasSource (D.seen terminal_copro.old).told (model_answer (inverted start)) → stands cells.items ≡ Some opening
         → IsEndOfSession image.now start (meeting opening cells.items (plan_view plan)) old (F.seen folder.old) (F.seen folder.new) (K.seen out.old)
         (K.seen out.new) result }
     ensures faults { NamesFaults (F.seen folder.old) (F.seen folder.new) (K.seen out.old) (K.seen out.new) result }
@@ -65,12 +64,8 @@ pub fn session<F: Folder, K: Sink>(
     ensures meets { Meets (Session image.now terminal.now start) (F.seen folder.old) (F.seen folder.new) (K.seen out.old) (K.seen out.new) result }
     ensures faults { NamesFaults (F.seen folder.old) (F.seen folder.new) (K.seen out.old) (K.seen out.new) result }
 {
-    let cells = match load_image(alloc, folder, image) {
-        Ok(cells) => cells,
-        Err(exit) => return exit,
-    };
-    let plan = match load::<Plan, F>(alloc, folder, terminal) {
-        Ok(plan) => plan,
+    let (cells, plan) = match load_both::<Plan, F>(alloc, folder, image, terminal) {
+        Ok(both) => both,
         Err(exit) => return exit,
     };
     let mut chip_copro = ModelCoprocessor::new(alloc, start);

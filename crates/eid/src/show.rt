@@ -6,10 +6,9 @@ ghost use Rattle.eid_perso.specs.Show.{shown};
 ghost use Rattle.eid.specs.Commands.{Show};
 ghost use Rattle.eid.specs.Works.{Meets, NamesFaults};
 
-use crate::exit::Exit;
-use crate::load::load_image;
 use eid_base::{Folder, NoMemory, Sink};
 use eid_cells::{Eeprom, MemoryEeprom};
+use eid_inputs::{Exit, load_image};
 use eid_perso::show_text;
 use eid_store::Store;
 use std::alloc::Global;

@@ -1,8 +1,7 @@
-//! The program over a folder and a sink in memory: its exits with their lines and keys, folders and sinks that fail,
-//! and the rules and answers of worked examples. Whole traces and images stand in `tests/` at the top of the repository.
+//! The program over a folder and a sink in memory: its exits with their lines and keys, and folders and sinks that fail. Traces,
+//! reports and images stand in `tests/` at the top of the repository.
 mod calls;
 mod moment;
-mod sessions;
 
 use crate::program::program;
 use eid_base::{MemoryFolder, MemorySink};

@@ -4,6 +4,7 @@ ghost use Rattle.eid.specs.Commands.{Command, Says};
 ghost use Rattle.eid.specs.Words.{command};
 
 use eid_base::NoMemory;
+use eid_inputs::number;
 use std::alloc::Global;
 
 /// The most sessions that can be asked for.
@@ -63,22 +64,6 @@ pub enum Words<'a> {
         /// The name of the image's file.
         image: &'a str,
     },
-}
-
-/// The number that a text says in decimal, without sign or leading zero.
-fn number(alloc: Global, text: &str) -> Result<Option<u64>, NoMemory>
-    ensures found { IfOk result (λ r. IfSome r (λ n. (n < 2 ^ 64) × (text.now ≡ decimal n))) }
-    ensures none { IfOk result (λ r. IfNone r ((n : ℕ) → n < 2 ^ 64 → text.now ≡ decimal n → ⊥)) }
-{
-    let Ok(value) = text.parse::<u64>() else {
-        return Ok(None);
-    };
-    let spelled = value.to_string(alloc)?;
-    if spelled.as_str() == text {
-        Ok(Some(value))
-    } else {
-        Ok(None)
-    }
 }
 
 /// What the words behind `run` ask for.

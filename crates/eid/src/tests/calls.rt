@@ -1,8 +1,8 @@
 //! What a call of the program ends in and prints, over folders and sinks that may fail.
 use super::{ACCESS, chip, folder_of, holds, image, push_file, words};
-use crate::exit::Exit;
 use crate::program::program;
 use eid_base::{MemoryFolder, MemorySink};
+use eid_inputs::Exit;
 use std::alloc::AllocError;
 use std::test::Fail;
 

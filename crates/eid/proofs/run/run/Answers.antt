@@ -13,14 +13,7 @@ pub returns-in-Err-clause-meets : goal.returns-in-Err-clause-meets
 returns-in-Err-clause-meets g c =
     let image = c.args.image.now in
     let script = c.args.script.now in
-    image_refused (Run image script c.args.start) image script _ _ _ _ c.in-Err.exit (run_reads image script c.args.start _) c.load_image.ensures.same c.in-Err.ensures.refused
-
-pub returns-in-Err-load-clause-meets : goal.returns-in-Err-load-clause-meets
-returns-in-Err-load-clause-meets g c =
-    let image = c.args.image.now in
-    let script = c.args.script.now in
-    let o = opened image _ _ c.in-Ok.cells.items c.in-Ok.ensures.stands c.in-Ok.ensures.held c.load_image.ensures.same c.load_image.ensures.later in
-    script_refused (Run image script c.args.start) image script _ _ _ _ _ o.0 c.in-Ok.cells.items c.in-Err-load.exit (run_reads image script c.args.start _) o.1 c.load.ensures.same c.in-Err-load.ensures.refused
+    either_refused (Run image script c.args.start) _ _ _ _ _ _ c.in-Err.exit c.load_both.ensures.same c.in-Err.ensures.refused (run_reads image script c.args.start _).is
 
 pub returns-clause-meets : goal.returns-clause-meets
 returns-clause-meets g c =

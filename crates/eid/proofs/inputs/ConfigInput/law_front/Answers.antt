@@ -1,6 +1,0 @@
--- It is refused at its length.
-use Rattle.eid.proofs.Reading.{config_front}
-use Rattle.eid.proofs.inputs.ConfigInput.law_front.Goals as goal
-
-pub returns : goal.returns
-returns c = config_front

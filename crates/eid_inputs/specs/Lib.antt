@@ -1,0 +1,5 @@
+pub mod Exits
+pub mod Images
+pub mod Inputs
+pub mod Loads
+pub mod Storing
