@@ -4,6 +4,7 @@ use crate::rules::{BODY_FORM, FAULT, NO_POINT, OTHER_KEY};
 use crate::selection::read_selection;
 use eid_aes::Aes;
 use eid_base::{Point, Rule};
+use eid_cmac::SessionKeys;
 use eid_copro::Coprocessor;
 use eid_cvc::TerminalKnown;
 use eid_record::Record;
@@ -22,16 +23,16 @@ pub struct Proven {
     pub nonce: [u8; 8],
     /// The chip's token, as it is sent.
     pub token: [u8; 8],
-    /// The key of encryption.
-    pub enc: [u8; 16],
-    /// The key of MACs.
-    pub mac: [u8; 16],
+    /// The keys of the channel from then on.
+    pub keys: SessionKeys,
 }
 
 impl CaChosen {
     ghost use Rattle.std.specs.Prelude.{◌≡◌, ◌≤◌};
+    ghost use Rattle.std.specs.Str.{bytes_eq};
     ghost use Rattle.eid_record.specs.View.{record_view};
     ghost use Rattle.eid_cvc.specs.Chains.{known_view};
+    ghost use Rattle.eid_cvc.specs.PublicKeys.{x_half};
     ghost use Rattle.eid_copro.specs.Asking.{EndsAs};
     ghost use Rattle.eid_ca.specs.ProveEnds.{prove_asks, prove_given};
     ghost use Rattle.eid_ca.specs.Selections.{chosen_by, chosen_in};
@@ -52,6 +53,13 @@ impl CaChosen {
         })
     }
 
+    /// Whether this is the point whose X half the terminal announced.
+    pub fn expects(&self, point: &Point) -> bool
+        ensures { result ≡ bytes_eq (x_half point.now) (chosen_view self.now).key_x }
+    {
+        has_x_half(point, &self.key_x)
+    }
+
     /// The step: draws a nonce of 8 bytes, agrees on a secret with the chip's static key and the terminal's point,
     /// and gives nonce and token, as they are sent, with the new keys. Rule 41 is that the point is not the one
     /// whose X half the terminal announced (nothing is asked then), rule 50 a fault of the coprocessor, rule 52
@@ -67,7 +75,7 @@ impl CaChosen {
             let secret = (record_view kept.now).ca_secret in
             EndsAs (C.seen copro.old) (C.seen copro.new) (prove_asks chosen.key_x secret point.now) (prove_given chosen point.now) (given proven_view result) }
     {
-        if !has_x_half(point, &self.key_x) {
+        if !self.expects(point) {
             return Err(OTHER_KEY);
         }
         let Ok(nonce) = copro.challenge() else {
@@ -84,8 +92,10 @@ impl CaChosen {
         Ok(Proven {
             nonce,
             token: token(&key, self.protocol.identifier(), point),
-            enc: enc_key(&shared, &nonce),
-            mac,
+            keys: SessionKeys::Short {
+                enc: enc_key(&shared, &nonce),
+                mac,
+            },
         })
     }
 }

@@ -19,7 +19,6 @@ IsPaid Puk paid = ⊤
 -- what a PACE that succeeded leaves
 abbrev pub done_by : PlainAgreed → PlainDone
 done_by agreed = record {
-  protocol = agreed.choice.protocol;
   password = agreed.choice.password;
   template = agreed.choice.template;
   identity = identity_of agreed.chip_point;

@@ -28,7 +28,6 @@ pub record PlainAgreed : Type 0 where
 
 -- after the tokens
 pub record PlainDone : Type 0 where
-  pub protocol : Protocol
   pub password : Password
   pub template : Option (List ℕ)
   pub identity : List ℕ

@@ -3,6 +3,7 @@ use Rattle.std.specs.Prelude.{ℕ, List, Result, Ok, Err}
 use Rattle.std.specs.Option.{option_map}
 use Rattle.eid_base.specs.declared.codes.Rule.{Rule}
 use Rattle.eid_bits.specs.Template.{template_bytes}
+use Rattle.eid_cmac.specs.SessionKeys.{enc_of, mac_of}
 use Rattle.eid_pace.specs.Selections.{PlainSelection}
 use Rattle.eid_pace.specs.States.{PlainChoice, PlainNonceSent, PlainMapped, PlainAgreed, PlainDone}
 use Rattle.eid_pace.specs.declared.agreed.Agreed.{Agreed}
@@ -35,12 +36,11 @@ agreed_view s = record {
 
 abbrev pub done_view : Done → PlainDone
 done_view d = record {
-  protocol = d.protocol;
   password = d.password;
   template = option_map template_bytes d.template;
   identity = d.identity;
-  enc = d.enc;
-  mac = d.mac;
+  enc = enc_of d.keys;
+  mac = mac_of d.keys;
 }
 
 abbrev pub selection_view : Selection → PlainSelection

@@ -1,10 +1,10 @@
 use crate::choice::Choice;
 use crate::keys::{self, enc_key, identity_of, mac_key};
-use crate::protocol::Protocol;
 use crate::rules::WRONG_TOKEN;
 use eid_aes::Aes;
 use eid_base::{Point, Rule};
 use eid_bits::Template;
+use eid_cmac::SessionKeys;
 use eid_record::Password;
 use eid_store::Receipt;
 
@@ -20,18 +20,14 @@ pub struct Agreed {
 /// What a PACE that succeeded leaves.
 #[derive(Drop)]
 pub struct Done {
-    /// The protocol that was carried out.
-    pub protocol: Protocol,
     /// The password that opened it.
     pub password: Password,
     /// The template that the holder granted, if the selection had one.
     pub template: Option<Template>,
     /// The X half of the chip's ephemeral point, by which terminal authentication names the chip.
     pub identity: [u8; 32],
-    /// The key of encryption.
-    pub enc: [u8; 16],
-    /// The key of MACs.
-    pub mac: [u8; 16],
+    /// The keys of the channel that it opens.
+    pub keys: SessionKeys,
 }
 
 impl Agreed {
@@ -62,12 +58,13 @@ impl Agreed {
         }
         Ok((
             Done {
-                protocol: self.choice.protocol,
                 password: self.choice.password,
                 template: self.choice.template,
                 identity: identity_of(&self.chip_point),
-                enc: enc_key(&self.shared),
-                mac,
+                keys: SessionKeys::Short {
+                    enc: enc_key(&self.shared),
+                    mac,
+                },
             },
             keys::token(&key, protocol, &self.terminal_point),
         ))

@@ -1,11 +1,16 @@
 -- The keys and the send sequence counter of secure messaging (BSI TR-03110-3).
 use Rattle.std.specs.Prelude.{ℕ, ◌+◌, ◌%◌, ◌^◌, List}
 use Rattle.std.specs.Int.{w128, to_be_bytes}
+use Rattle.eid_cmac.specs.SessionKeys.{enc_of, mac_of}
+use Rattle.eid_cmac.specs.declared.session_keys.SessionKeys.{SessionKeys}
 
 -- the bytes of the key for encryption and of the key for MACs
 pub record Keys : Type 0 where
   pub enc : List ℕ
   pub mac : List ℕ
+
+abbrev pub keys_view : SessionKeys → Keys
+keys_view keys = record { enc = enc_of keys; mac = mac_of keys }
 
 -- what a channel keeps: its keys, and the send sequence counter of the last message
 pub record ChannelState : Type 0 where

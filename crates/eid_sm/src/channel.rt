@@ -2,7 +2,7 @@
 ghost use Rattle.std.specs.Prelude.{◌≡◌, ◌≢◌, ℕ, ◌≤◌, ◌↔◌, List, length, IsOk, OnOk, OnErr, IfOk, IsOkAnd};
 ghost use Rattle.arrayvec.specs.ArrayVec.{array_vec_len};
 ghost use Rattle.eid_apdu.specs.Answer.{PlainReply, plain_reply};
-ghost use Rattle.eid_sm.specs.Keys.{Keys, ChannelState, counter_bytes, next_counter, advanced};
+ghost use Rattle.eid_sm.specs.Keys.{Keys, ChannelState, keys_view, counter_bytes, next_counter, advanced};
 ghost use Rattle.eid_apdu.specs.Command.{PlainCommand, plain_command};
 ghost use Rattle.eid_apdu.specs.Writing.{written};
 ghost use Rattle.eid_sm.specs.Commands.{IsPlainClass, IsProtected, written_command, HasObjects, LacksObjects};
@@ -18,6 +18,7 @@ use arrayvec::ArrayVec;
 use eid_aes::Aes;
 use eid_apdu::{Command, MAX_CONTENT, Reply};
 use eid_base::Status;
+use eid_cmac::SessionKeys;
 use std::marker::Model;
 
 /// How many bytes a plain command body or the data of a plain reply has at most.
@@ -80,9 +81,10 @@ impl Model for Channel {
 
 impl Channel {
     /// A channel under these keys. Its send sequence counter is 0.
-    pub fn new(enc: [u8; 16], mac: [u8; 16]) -> Channel
-        ensures { result ≡ record { keys = record { enc = enc; mac = mac }; counter = 0 } }
+    pub fn new(keys: SessionKeys) -> Channel
+        ensures { result ≡ record { keys = keys_view keys; counter = 0 } }
     {
+        let SessionKeys::Short { enc, mac } = keys;
         Channel {
             enc: Aes::<10>::new(&enc),
             mac: Aes::<10>::new(&mac),
@@ -92,7 +94,7 @@ impl Channel {
 
     /// Writes the protected form of a reply, at the next counter, over what `out` held.
     pub fn seal(&mut self, reply: &Reply, out: &mut ArrayVec<u8, MAX_MESSAGE>)
-        requires { array_vec_len reply.now.content ≤ MAX_PLAIN }
+        requires { array_vec_len reply.now.content ≤ 2048 }
         ensures written { out.new.items ≡ sealed self.old.keys (next_counter self.old.counter) (plain_reply reply.now) }
         ensures readable { IsSealed self.old.keys (next_counter self.old.counter) out.new.items (plain_reply reply.now) }
         ensures counted { self.new ≡ advanced self.old }
@@ -111,7 +113,7 @@ impl Channel {
     /// length in one byte up to 256, and the greatest expected length outside, short where it can be. The data
     /// objects are made in a buffer of their own, since the command's length field before them says their length.
     pub fn wrap(&mut self, c: &Command<'_>, out: &mut ArrayVec<u8, MAX_MESSAGE>)
-        requires body { length c.now.body.now ≤ MAX_PLAIN }
+        requires body { length c.now.body.now ≤ 2048 }
         requires expected { c.now.ne ≤ 65536 }
         requires class { IsPlainClass c.now.cla }
         ensures written { out.new.items ≡ written (written_command self.old.keys (next_counter self.old.counter) (plain_command c.now)) }

@@ -57,6 +57,6 @@ HasPlace-prop plan (awaited.Chip command) = hlevel props
 HasPlace-prop plan (awaited.Request command) = HasRequest-prop plan command
 
 pub IsSound-prop : (plan : PlainPlan) (state : State) → IsProp (IsSound plan state)
-IsSound-prop plan (states.Waiting w) = HasPlace-prop plan w.awaited
-IsSound-prop plan (states.Ready r) = hlevel props
+IsSound-prop plan (states.Waiting a) = HasPlace-prop plan a
+IsSound-prop plan (states.Ready standing) = hlevel props
 IsSound-prop plan (states.Ended ending) = hlevel props

@@ -7,10 +7,11 @@ use Rattle.eid_base.specs.Faults.{Rose}
 use Rattle.eid_copro.specs.Asking.{WereAsked}
 use Rattle.eid_copro.specs.Seen.{CoproSeen}
 use Rattle.eid_copro.specs.declared.ask.Ask.{Ask}
-use Rattle.eid_terminal.specs.declared.state.Ready.{Ready}
+use Rattle.eid_sm.specs.Keys.{ChannelState}
+use Rattle.eid_terminal.specs.declared.state.Awaited.{Awaited}
+use Rattle.eid_terminal.specs.declared.state.Standing.{Standing}
 use Rattle.eid_terminal.specs.declared.state.State.{State}
 use Rattle.eid_terminal.specs.declared.state.State.TheVariants as states
-use Rattle.eid_terminal.specs.declared.state.Waiting.{Waiting}
 use Rattle.eid_terminal.specs.Courses.{Course, IsHere, Reached, Asks, Sends, Passes, Gives, Stops, Faults, Ends, SendsBytes}
 use Rattle.eid_terminal.specs.Moves.{Move, move_of}
 use Rattle.eid_terminal.specs.Plans.{PlainPlan}
@@ -115,21 +116,21 @@ none_copied : (reply : Option (Bor (List ℕ))) → is_some reply ≡ false → 
 none_copied None h = refl
 none_copied (Some bytes) h = cc
 
-pub ready_goes : (before after : CoproSeen) (plan : PlainPlan) (state : State) (ready : Ready) (reply : Option (Bor (List ℕ))) (turn : TurnSeen)
-    → state ≡ states.Ready ready → is_some reply ≡ (state_view plan state).waits → Comes before after plan turn (ready_course plan ready.standing ready.channel)
-    → Goes before after (state_view plan state) (state_view plan turn.state) (option_copied reply) turn.move
-ready_goes before after plan state ready reply turn is due comes =
-    let none : option_copied reply ≡ None = none_copied reply (due ∙ ap (λ (s : State). (state_view plan s).waits) is) in
-    subst (λ (s : State). Goes before after (state_view plan s) (state_view plan turn.state) (option_copied reply) turn.move) (sym is)
-    (subst (λ (r : Option (List ℕ)). Goes before after (state_view plan (states.Ready ready)) (state_view plan turn.state) r turn.move) (sym none)
-    (goes before after (state_view plan (states.Ready ready)) (state_view plan turn.state) None turn.move comes.asks comes.at
+pub ready_goes : (before after : CoproSeen) (plan : PlainPlan) (channel : Option ChannelState) (state : State) (standing : Standing) (reply : Option (Bor (List ℕ))) (turn : TurnSeen)
+    → state ≡ states.Ready standing → is_some reply ≡ (state_view plan channel state).waits → Comes before after plan turn (ready_course plan standing channel)
+    → Goes before after (state_view plan channel state) (state_view plan turn.channel turn.state) (option_copied reply) turn.move
+ready_goes before after plan channel state standing reply turn is due comes =
+    let none : option_copied reply ≡ None = none_copied reply (due ∙ ap (λ (s : State). (state_view plan channel s).waits) is) in
+    subst (λ (s : State). Goes before after (state_view plan channel s) (state_view plan turn.channel turn.state) (option_copied reply) turn.move) (sym is)
+    (subst (λ (r : Option (List ℕ)). Goes before after (state_view plan channel (states.Ready standing)) (state_view plan turn.channel turn.state) r turn.move) (sym none)
+    (goes before after (state_view plan channel (states.Ready standing)) (state_view plan turn.channel turn.state) None turn.move comes.asks comes.at
     comes.were_asked comes.reached comes.did.left comes.did.move comes.did.octets comes.fault))
 
-pub waiting_goes : (before after : CoproSeen) (plan : PlainPlan) (state : State) (waiting : Waiting) (reply : Option (Bor (List ℕ))) (bytes : Bor (List ℕ)) (turn : TurnSeen)
-    → state ≡ states.Waiting waiting → reply ≡ Some bytes → Heard before after plan waiting bytes.now turn
-    → Goes before after (state_view plan state) (state_view plan turn.state) (option_copied reply) turn.move
-waiting_goes before after plan state waiting reply bytes turn is there heard =
-    subst (λ (s : State). Goes before after (state_view plan s) (state_view plan turn.state) (option_copied reply) turn.move) (sym is)
-    (subst (λ (r : Option (Bor (List ℕ))). Goes before after (state_view plan (states.Waiting waiting)) (state_view plan turn.state) (option_copied r) turn.move) (sym there)
-    (goes before after (state_view plan (states.Waiting waiting)) (state_view plan turn.state) (Some bytes.now) turn.move heard.comes.asks heard.comes.at
+pub waiting_goes : (before after : CoproSeen) (plan : PlainPlan) (channel : Option ChannelState) (state : State) (awaited : Awaited) (reply : Option (Bor (List ℕ))) (bytes : Bor (List ℕ)) (turn : TurnSeen)
+    → state ≡ states.Waiting awaited → reply ≡ Some bytes → Heard before after plan awaited channel bytes.now turn
+    → Goes before after (state_view plan channel state) (state_view plan turn.channel turn.state) (option_copied reply) turn.move
+waiting_goes before after plan channel state awaited reply bytes turn is there heard =
+    subst (λ (s : State). Goes before after (state_view plan channel s) (state_view plan turn.channel turn.state) (option_copied reply) turn.move) (sym is)
+    (subst (λ (r : Option (Bor (List ℕ))). Goes before after (state_view plan channel (states.Waiting awaited)) (state_view plan turn.channel turn.state) (option_copied r) turn.move) (sym there)
+    (goes before after (state_view plan channel (states.Waiting awaited)) (state_view plan turn.channel turn.state) (Some bytes.now) turn.move heard.comes.asks heard.comes.at
     heard.comes.were_asked (heard.reading, (heard.reads, heard.comes.reached)) heard.comes.did.left heard.comes.did.move heard.comes.did.octets heard.comes.fault))

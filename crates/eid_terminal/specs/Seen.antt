@@ -6,4 +6,4 @@ use Rattle.eid_terminal.specs.View.{state_view}
 
 -- where it stands
 unfoldable pub terminal_view : Terminal → TerminalView
-terminal_view t = state_view (plan_view t.plan) t.state
+terminal_view t = state_view (plan_view t.plan) t.channel t.state

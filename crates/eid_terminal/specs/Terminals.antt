@@ -2,7 +2,7 @@
 use Rattle.std.specs.Prelude.{◌≡◌, ℕ, ◌+◌, Bool, true, false, List, [], ◌∷◌, ◌++◌, Option, Some, None}
 use Rattle.std.specs.Option.{option_to_list}
 use Rattle.eid_base.specs.Faults.{Rose}
-use Rattle.eid_apdu.specs.Answer.{plain_reply}
+use Rattle.eid_apdu.specs.Answer.{PlainReply, plain_reply}
 use Rattle.eid_copro.specs.Asking.{WereAsked}
 use Rattle.eid_copro.specs.Seen.{CoproSeen}
 use Rattle.eid_copro.specs.declared.ask.Ask.{Ask}
@@ -10,6 +10,8 @@ use Rattle.eid_record.specs.declared.fields.Password.TheVariants.{Can}
 use Rattle.eid_sm.specs.Keys.{ChannelState}
 use Rattle.eid_terminal.specs.declared.action.Action.{Action}
 use Rattle.eid_terminal.specs.declared.action.Action.TheVariants as actions
+use Rattle.eid_terminal.specs.declared.action.Deed.{Deed}
+use Rattle.eid_terminal.specs.declared.action.Deed.TheVariants as deeds
 use Rattle.eid_terminal.specs.Authentication.{imports}
 use Rattle.eid_terminal.specs.Commands.{PlainTerms}
 use Rattle.eid_terminal.specs.Courses.{Course, Reached, SendsBytes, Asks, Sends, Passes, Gives, Stops, Faults, Ends}
@@ -80,6 +82,15 @@ left_at (Faults step) = record { course = Faults step; waits = false; ended = tr
 left_at Ends = record { course = Ends; waits = false; ended = true }
 
 -- ---- what a terminal does
+
+-- the deed as a move, with the command that was written and the reply that was heard
+abbrev pub move_made : Deed → (message : List ℕ) → (heard : PlainReply) → Move
+move_made deeds.Send message heard = moves.Sends message
+move_made (deeds.Result request) message heard = moves.Gives request heard
+move_made (deeds.Passed step) message heard = moves.Passes step
+move_made deeds.Done message heard = moves.Ends
+move_made (deeds.Stopped step status) message heard = moves.Stops step status.0
+move_made (deeds.Fault step) message heard = moves.Faults step
 
 -- the action as a move
 abbrev pub move_seen : Action → Move

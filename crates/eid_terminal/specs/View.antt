@@ -22,8 +22,6 @@ use Rattle.eid_terminal.specs.declared.state.ChipCommand.{ChipCommand}
 use Rattle.eid_terminal.specs.declared.state.ChipCommand.TheVariants as chip_commands
 use Rattle.eid_terminal.specs.declared.state.RequestCommand.{RequestCommand}
 use Rattle.eid_terminal.specs.declared.state.RequestCommand.TheVariants as request_commands
-use Rattle.eid_terminal.specs.declared.state.Deed.{Deed}
-use Rattle.eid_terminal.specs.declared.state.Deed.TheVariants as deeds
 use Rattle.eid_terminal.specs.declared.state.Ending.{Ending}
 use Rattle.eid_terminal.specs.declared.state.Ending.TheVariants as endings
 use Rattle.eid_terminal.specs.declared.state.Round.{Round}
@@ -34,17 +32,15 @@ use Rattle.eid_terminal.specs.declared.state.State.{State}
 use Rattle.eid_terminal.specs.declared.state.State.TheVariants as states
 use Rattle.eid_terminal.specs.declared.state.Terms.{Terms}
 use Rattle.eid_terminal.specs.declared.state.Turn.{Turn}
-use Rattle.eid_terminal.specs.declared.state.Waiting.{Waiting}
 use Rattle.eid_terminal.specs.Authentication.{after_challenge, after_proof, authenticate_chip, imports, issuer_of, last_holder, select}
 use Rattle.eid_terminal.specs.Commands.{PlainTerms, agree, announce, authenticate, auxiliary, external_authenticate, get_challenge, get_nonce, identify, import_certificate, map_nonce, prove, select_application, select_chip_authentication, select_key, select_pace}
 use Rattle.eid_terminal.specs.Courses.{Course, IsReading, Reached, Passes, Stops, Faults, Ends, SendsBytes}
 use Rattle.eid_terminal.specs.Exchanges.{awaiting, by_reading, counted, exchange, expecting}
 use Rattle.eid_terminal.specs.Moves.{Move, move_of}
-use Rattle.eid_terminal.specs.Moves as moves
 use Rattle.eid_terminal.specs.Pace.{Opened, after_agreement, after_mapping, after_nonce, after_selection, after_token, token_for}
 use Rattle.eid_terminal.specs.Plans.{PlainPlan, CanBeAsked}
 use Rattle.eid_terminal.specs.Requests.{after_command, after_identification, command_for, last_step, requests, sector_of}
-use Rattle.eid_terminal.specs.Terminals.{TerminalView, behind_pace, course, left_at, tells_fault, with_password}
+use Rattle.eid_terminal.specs.Terminals.{TerminalView, behind_pace, course, left_at, move_made, tells_fault, with_password}
 
 abbrev pub terms_view : Terms → PlainTerms
 terms_view t = record { password = t.password; digits = t.digits.items; template = option_map template_bytes t.template }
@@ -160,10 +156,10 @@ ended_course endings.Done = Ends
 ended_course (endings.Stopped step status) = Stops step status.0
 ended_course (endings.Fault step) = Faults step
 
-abbrev pub state_view : PlainPlan → State → TerminalView
-state_view plan (states.Waiting w) = record { course = waiting_course plan w.awaited w.channel; waits = true; ended = false }
-state_view plan (states.Ready r) = record { course = ready_course plan r.standing r.channel; waits = false; ended = false }
-state_view plan (states.Ended ending) = record { course = ended_course ending; waits = false; ended = true }
+abbrev pub state_view : PlainPlan → Option ChannelState → State → TerminalView
+state_view plan channel (states.Waiting awaited) = record { course = waiting_course plan awaited channel; waits = true; ended = false }
+state_view plan channel (states.Ready standing) = record { course = ready_course plan standing channel; waits = false; ended = false }
+state_view plan channel (states.Ended ending) = record { course = ended_course ending; waits = false; ended = true }
 
 -- the place of a certificate that there is
 abbrev pub HasCertificate : PlainPlan → TerminalCommand → Type 0
@@ -185,31 +181,23 @@ HasPlace plan (awaited.Chip command) = Unit {0}
 HasPlace plan (awaited.Request command) = HasRequest plan command
 
 abbrev pub IsSound : PlainPlan → State → Type 0
-IsSound plan (states.Waiting w) = HasPlace plan w.awaited
-IsSound plan (states.Ready r) = Unit {0}
+IsSound plan (states.Waiting awaited) = HasPlace plan awaited
+IsSound plan (states.Ready standing) = Unit {0}
 IsSound plan (states.Ended ending) = Unit {0}
 
 -- ---- a turn
 
--- what was done, with the bytes that were written and the reply that was heard
-abbrev pub move_made : Deed → (message : List ℕ) → (heard : PlainReply) → Move
-move_made deeds.Send message heard = moves.Sends message
-move_made (deeds.Result request) message heard = moves.Gives request heard
-move_made (deeds.Passed step) message heard = moves.Passes step
-move_made deeds.Done message heard = moves.Ends
-move_made (deeds.Stopped step status) message heard = moves.Stops step status.0
-move_made (deeds.Fault step) message heard = moves.Faults step
-
 pub record TurnSeen : Type 0 where
   pub state : State
+  pub channel : Option ChannelState
   pub move : Move
 
-abbrev pub seen : Turn → (message : List ℕ) → (heard : PlainReply) → TurnSeen
-seen turn message heard = record { state = turn.state; move = move_made turn.deed message heard }
+abbrev pub seen : Turn → Option ChannelState → (message : List ℕ) → (heard : PlainReply) → TurnSeen
+seen turn channel message heard = record { state = turn.state; channel = channel; move = move_made turn.deed message heard }
 
 -- the terminal did what comes at a course, and stands behind it
 pub record Did (plan : PlainPlan) (turn : TurnSeen) (at : Course) : Type 0 where
-  pub left : state_view plan turn.state ≡ left_at at
+  pub left : state_view plan turn.channel turn.state ≡ left_at at
   pub move : turn.move ≡ move_of at
   pub octets : SendsBytes at
   pub sound : IsSound plan turn.state
@@ -224,8 +212,7 @@ pub record Comes (before after : CoproSeen) (plan : PlainPlan) (turn : TurnSeen)
   pub fault : tells_fault turn.move ≡ true → Rose before.faults after.faults
 
 -- the bytes were read as a reply or as none, and the terminal went on by that
-pub record Heard (before after : CoproSeen) (plan : PlainPlan) (waiting : Waiting) (bytes : List ℕ) (turn : TurnSeen) : Type 0 where
+pub record Heard (before after : CoproSeen) (plan : PlainPlan) (awaited : Awaited) (channel : Option ChannelState) (bytes : List ℕ) (turn : TurnSeen) : Type 0 where
   pub reading : Option PlainReply
-  pub reads : IsReading waiting.channel bytes reading
-  pub comes : Comes before after plan turn
-      (by_reading (step_of plan waiting.awaited) (later_of plan waiting.awaited (counted waiting.channel)) reading)
+  pub reads : IsReading channel bytes reading
+  pub comes : Comes before after plan turn (by_reading (step_of plan awaited) (later_of plan awaited (counted channel)) reading)

@@ -13,7 +13,7 @@ ghost use Rattle.eid_terminal.specs.Exchanges.{exchange, expecting};
 ghost use Rattle.eid_terminal.specs.Plans.{IsFit, PlainPlan, plan_view};
 ghost use Rattle.eid_terminal.specs.View.{Comes, Did, HasCertificate, after_terminal, certificate_at, imports_behind, seen};
 
-use crate::action::Step;
+use crate::action::{Message, Step};
 use crate::bodies::{announcement, auxiliary, key_selection};
 use crate::certificates::{certificate_at, issuer_of, last_holder};
 use crate::headers::{
@@ -22,7 +22,7 @@ use crate::headers::{
 use crate::line::send;
 use crate::plan::Plan;
 use crate::replies::{challenge_in, is_done};
-use crate::state::{Awaited, Message, Pair, Standing, TerminalCommand, Turn};
+use crate::state::{Awaited, Pair, Standing, TerminalCommand, Turn};
 use crate::turns::{failed, passed, stopped};
 use eid_apdu::Reply;
 use eid_base::Point;
@@ -43,15 +43,15 @@ fn x_half(point: &Point) -> [u8; 32]
 /// announces itself.
 pub fn import<C: Coprocessor>(
     plan: &Plan,
-    channel: Option<Channel>,
+    channel: &mut Option<Channel>,
     identity: [u8; 32],
     place: usize,
     copro: &mut C,
     message: &mut Message,
 ) -> Turn
     requires { 1 ≤ (C.seen copro.old).spare }
-    ensures { (heard : PlainReply) → Comes (C.seen copro.old) (C.seen copro.new) (plan_view plan.now) (seen result message.new.items heard)
-        (course.imports (plan_view plan.now) identity (drop place (plan_view plan.now).certificates) channel) }
+    ensures { (heard : PlainReply) → Comes (C.seen copro.old) (C.seen copro.new) (plan_view plan.now) (seen result channel.new message.new.items heard)
+        (course.imports (plan_view plan.now) identity (drop place (plan_view plan.now).certificates) channel.old) }
 {
     let Some(certificate) = certificate_at(plan, place) else {
         return announce(plan, channel, identity, copro, message);
@@ -68,7 +68,7 @@ pub fn import<C: Coprocessor>(
 /// The key was selected: sends the certificate at this place.
 pub fn after_key_selection(
     plan: &Plan,
-    channel: Option<Channel>,
+    channel: &mut Option<Channel>,
     identity: [u8; 32],
     place: usize,
     reply: &Reply,
@@ -77,8 +77,8 @@ pub fn after_key_selection(
     requires fit { IsFit (plan_view plan.now) }
     requires there { place < length (plan_view plan.now).certificates }
     ensures { (heard : PlainReply) → let p = plan_view plan.now in
-        Did p (seen result message.new.items heard) (expecting steps.Ta (exchange steps.Ta (import_certificate (certificate_at p place))
-        (expecting steps.Ta (imports_behind p identity place))) channel (plain_reply reply.now)) }
+        Did p (seen result channel.new message.new.items heard) (expecting steps.Ta (exchange steps.Ta (import_certificate (certificate_at p place))
+        (expecting steps.Ta (imports_behind p identity place))) channel.old (plain_reply reply.now)) }
 {
     if !is_done(reply) {
         return stopped(Step::Ta, reply.status);
@@ -96,7 +96,7 @@ pub fn after_key_selection(
 /// The certificate at this place was accepted: goes on with the next one.
 pub fn after_certificate<C: Coprocessor>(
     plan: &Plan,
-    channel: Option<Channel>,
+    channel: &mut Option<Channel>,
     identity: [u8; 32],
     place: usize,
     reply: &Reply,
@@ -106,8 +106,8 @@ pub fn after_certificate<C: Coprocessor>(
     requires there { place < length (plan_view plan.now).certificates }
     requires room { 1 ≤ (C.seen copro.old).spare }
     ensures { (heard : PlainReply) → let p = plan_view plan.now in
-        Comes (C.seen copro.old) (C.seen copro.new) p (seen result message.new.items heard)
-        (expecting steps.Ta (imports_behind p identity place) channel (plain_reply reply.now)) }
+        Comes (C.seen copro.old) (C.seen copro.new) p (seen result channel.new message.new.items heard)
+        (expecting steps.Ta (imports_behind p identity place) channel.old (plain_reply reply.now)) }
 {
     if !is_done(reply) {
         return stopped(Step::Ta, reply.status);
@@ -118,14 +118,14 @@ pub fn after_certificate<C: Coprocessor>(
 /// Draws a pair, and announces the terminal with the X half of its point.
 fn announce<C: Coprocessor>(
     plan: &Plan,
-    channel: Option<Channel>,
+    channel: &mut Option<Channel>,
     identity: [u8; 32],
     copro: &mut C,
     message: &mut Message,
 ) -> Turn
     requires { 1 ≤ (C.seen copro.old).spare }
-    ensures { (heard : PlainReply) → Comes (C.seen copro.old) (C.seen copro.new) (plan_view plan.now) (seen result message.new.items heard)
-        (course.authenticate_terminal (plan_view plan.now) identity channel) }
+    ensures { (heard : PlainReply) → Comes (C.seen copro.old) (C.seen copro.new) (plan_view plan.now) (seen result channel.new message.new.items heard)
+        (course.authenticate_terminal (plan_view plan.now) identity channel.old) }
 {
     let Ok(pair) = copro.pair(None) else {
         return failed(Step::Ta);
@@ -145,14 +145,14 @@ fn announce<C: Coprocessor>(
 
 /// The terminal was announced: asks for a challenge.
 pub fn after_announcement(
-    channel: Option<Channel>,
+    channel: &mut Option<Channel>,
     identity: [u8; 32],
     pair: Pair,
     reply: &Reply,
     message: &mut Message,
 ) -> Turn
-    ensures { (plan : PlainPlan) (heard : PlainReply) → Did plan (seen result message.new.items heard) (expecting steps.Ta (exchange steps.Ta get_challenge
-        (course.after_challenge plan identity pair.secret pair.point)) channel (plain_reply reply.now)) }
+    ensures { (plan : PlainPlan) (heard : PlainReply) → Did plan (seen result channel.new message.new.items heard) (expecting steps.Ta (exchange steps.Ta get_challenge
+        (course.after_challenge plan identity pair.secret pair.point)) channel.old (plain_reply reply.now)) }
 {
     if !is_done(reply) {
         return stopped(Step::Ta, reply.status);
@@ -181,7 +181,7 @@ fn digest(identity: &[u8; 32], challenge: &[u8; 8], point: &Point, auxiliary: &[
 /// The challenge came: sends the signature.
 pub fn after_challenge<C: Coprocessor>(
     plan: &Plan,
-    channel: Option<Channel>,
+    channel: &mut Option<Channel>,
     identity: &[u8; 32],
     pair: Pair,
     reply: &Reply,
@@ -189,8 +189,8 @@ pub fn after_challenge<C: Coprocessor>(
     message: &mut Message,
 ) -> Turn
     requires { 1 ≤ (C.seen copro.old).spare }
-    ensures { (heard : PlainReply) → Comes (C.seen copro.old) (C.seen copro.new) (plan_view plan.now) (seen result message.new.items heard)
-        (course.after_challenge (plan_view plan.now) identity.now pair.secret pair.point channel (plain_reply reply.now)) }
+    ensures { (heard : PlainReply) → Comes (C.seen copro.old) (C.seen copro.new) (plan_view plan.now) (seen result channel.new message.new.items heard)
+        (course.after_challenge (plan_view plan.now) identity.now pair.secret pair.point channel.old (plain_reply reply.now)) }
 {
     let Some(challenge) = challenge_in(reply) else {
         return stopped(Step::Ta, reply.status);
@@ -209,20 +209,20 @@ pub fn after_challenge<C: Coprocessor>(
 }
 
 /// The signature was accepted.
-pub fn after_signature(channel: Option<Channel>, pair: Pair, reply: &Reply) -> Turn
-    ensures { (plan : PlainPlan) (message : List ℕ) (heard : PlainReply) → Did plan (seen result message heard) (expecting steps.Ta (λ known. Passes steps.Ta
-        (course.authenticate_chip plan pair.secret pair.point known)) channel (plain_reply reply.now)) }
+pub fn after_signature(pair: Pair, reply: &Reply) -> Turn
+    ensures { (plan : PlainPlan) (channel : Option ChannelState) (message : List ℕ) (heard : PlainReply) → Did plan (seen result channel message heard)
+        (expecting steps.Ta (λ known. Passes steps.Ta (course.authenticate_chip plan pair.secret pair.point known)) channel (plain_reply reply.now)) }
 {
     if !is_done(reply) {
         return stopped(Step::Ta, reply.status);
     }
-    passed(channel, Step::Ta, Standing::TerminalProven { pair })
+    passed(Step::Ta, Standing::TerminalProven { pair })
 }
 
 /// Goes on by the reply to a command of terminal authentication.
 pub fn hear<C: Coprocessor>(
     plan: &Plan,
-    channel: Option<Channel>,
+    channel: &mut Option<Channel>,
     command: TerminalCommand,
     reply: &Reply,
     copro: &mut C,
@@ -232,7 +232,7 @@ pub fn hear<C: Coprocessor>(
     requires there { HasCertificate (plan_view plan.now) command }
     requires room { 1 ≤ (C.seen copro.old).spare }
     ensures { (heard : PlainReply) → let p = plan_view plan.now in
-        Comes (C.seen copro.old) (C.seen copro.new) p (seen result message.new.items heard) (after_terminal p command channel (plain_reply reply.now)) }
+        Comes (C.seen copro.old) (C.seen copro.new) p (seen result channel.new message.new.items heard) (after_terminal p command channel.old (plain_reply reply.now)) }
 {
     match command {
         TerminalCommand::KeySelection { identity, place } => {
@@ -247,6 +247,6 @@ pub fn hear<C: Coprocessor>(
         TerminalCommand::Challenge { identity, pair } => {
             after_challenge(plan, channel, &identity, pair, reply, copro, message)
         }
-        TerminalCommand::Signature { pair, .. } => after_signature(channel, pair, reply),
+        TerminalCommand::Signature { pair, .. } => after_signature(pair, reply),
     }
 }

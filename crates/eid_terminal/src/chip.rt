@@ -1,5 +1,5 @@
 //! Chip authentication, and the selection of the application (BSI TR-03110-2 and TR-03110-3; ISO/IEC 7816-4).
-ghost use Rattle.std.specs.Prelude.{◌≡◌, ◌≤◌, Option, ℕ, List};
+ghost use Rattle.std.specs.Prelude.{◌≡◌, ◌≤◌, Option, Some, ℕ, List};
 ghost use Rattle.eid_apdu.specs.Answer.{PlainReply, plain_reply};
 ghost use Rattle.eid_ca.specs.Keys as keys;
 ghost use Rattle.eid_sm.specs.Keys.{ChannelState};
@@ -14,19 +14,20 @@ ghost use Rattle.eid_terminal.specs.Plans.{PlainPlan, plan_view};
 ghost use Rattle.eid_terminal.specs.Requests.{requests};
 ghost use Rattle.eid_terminal.specs.View.{Comes, Did, after_chip, seen};
 
-use crate::action::Step;
+use crate::action::{Message, Step};
 use crate::bodies::{authentication_data, protocol_selection};
 use crate::headers::{AUTHENTICATE, SELECT_APPLICATION, SELECT_PROTOCOL};
 use crate::line::send;
 use crate::plan::Plan;
 use crate::replies::{is_done, proof_in};
-use crate::state::{Awaited, ChipCommand, Message, Pair, Standing, Turn};
+use crate::state::{Awaited, ChipCommand, Pair, Standing, Turn};
 use crate::turns::{failed, passed, stopped};
 use eid_aes::Aes;
 use eid_apdu::Reply;
 use eid_base::Point;
 use eid_bits::Known;
 use eid_ca::keys::{enc_key, mac_key, token};
+use eid_cmac::SessionKeys;
 use eid_copro::Coprocessor;
 use eid_sm::Channel;
 
@@ -42,16 +43,19 @@ fn chip_token(shared: &[u8; 32], nonce: &[u8; 8], point: &Point) -> [u8; 8]
 }
 
 /// The channel that chip authentication opens.
-fn channel_under(shared: &[u8; 32], nonce: &[u8; 8]) -> Option<Channel>
-    ensures { result ≡ channel_under (keys.enc_key shared.now nonce.now) (keys.mac_key shared.now nonce.now) }
+fn channel_under(shared: &[u8; 32], nonce: &[u8; 8]) -> Channel
+    ensures { Some result ≡ channel_under (keys.enc_key shared.now nonce.now) (keys.mac_key shared.now nonce.now) }
 {
-    Some(Channel::new(enc_key(shared, nonce), mac_key(shared, nonce)))
+    Channel::new(SessionKeys::Short {
+        enc: enc_key(shared, nonce),
+        mac: mac_key(shared, nonce),
+    })
 }
 
 /// Selects chip authentication.
-pub fn begin(channel: Option<Channel>, pair: Pair, message: &mut Message) -> Turn
-    ensures { (plan : PlainPlan) (heard : PlainReply) → Did plan (seen result message.new.items heard)
-        (course.authenticate_chip plan pair.secret pair.point channel) }
+pub fn begin(channel: &mut Option<Channel>, pair: Pair, message: &mut Message) -> Turn
+    ensures { (plan : PlainPlan) (heard : PlainReply) → Did plan (seen result channel.new message.new.items heard)
+        (course.authenticate_chip plan pair.secret pair.point channel.old) }
 {
     send(
         channel,
@@ -64,14 +68,14 @@ pub fn begin(channel: Option<Channel>, pair: Pair, message: &mut Message) -> Tur
 
 /// Chip authentication was selected: sends the point.
 pub fn after_selection(
-    channel: Option<Channel>,
+    channel: &mut Option<Channel>,
     pair: Pair,
     reply: &Reply,
     message: &mut Message,
 ) -> Turn
-    ensures { (plan : PlainPlan) (heard : PlainReply) → Did plan (seen result message.new.items heard)
+    ensures { (plan : PlainPlan) (heard : PlainReply) → Did plan (seen result channel.new message.new.items heard)
         (expecting steps.Ca (exchange steps.Ca (commands.prove pair.point)
-        (course.after_proof plan pair.secret pair.point)) channel (plain_reply reply.now)) }
+        (course.after_proof plan pair.secret pair.point)) channel.old (plain_reply reply.now)) }
 {
     if !is_done(reply) {
         return stopped(Step::Ca, reply.status);
@@ -88,11 +92,17 @@ pub fn after_selection(
 
 /// The chip's nonce and token came: agrees on a secret with its static key. The token has to be the one for the
 /// terminal's point.
-pub fn after_proof<C: Coprocessor>(plan: &Plan, pair: &Pair, reply: &Reply, copro: &mut C) -> Turn
+pub fn after_proof<C: Coprocessor>(
+    plan: &Plan,
+    channel: &mut Option<Channel>,
+    pair: &Pair,
+    reply: &Reply,
+    copro: &mut C,
+) -> Turn
     requires { 1 ≤ (C.seen copro.old).spare }
-    ensures { (message : List ℕ) (heard : PlainReply) (channel : Option ChannelState)
-        → Comes (C.seen copro.old) (C.seen copro.new) (plan_view plan.now) (seen result message heard)
-        (course.after_proof (plan_view plan.now) pair.now.secret pair.now.point channel (plain_reply reply.now)) }
+    ensures { (message : List ℕ) (heard : PlainReply)
+        → Comes (C.seen copro.old) (C.seen copro.new) (plan_view plan.now) (seen result channel.new message heard)
+        (course.after_proof (plan_view plan.now) pair.now.secret pair.now.point channel.old (plain_reply reply.now)) }
 {
     let Some(proof) = proof_in(reply) else {
         return stopped(Step::Ca, reply.status);
@@ -106,16 +116,13 @@ pub fn after_proof<C: Coprocessor>(plan: &Plan, pair: &Pair, reply: &Reply, copr
     if proof.token != chip_token(&shared, &proof.nonce, &pair.point) {
         return stopped(Step::Ca, reply.status);
     }
-    passed(
-        channel_under(&shared, &proof.nonce),
-        Step::Ca,
-        Standing::ChipProven,
-    )
+    *channel = Some(channel_under(&shared, &proof.nonce));
+    passed(Step::Ca, Standing::ChipProven)
 }
 
 /// Selects the application.
-pub fn select(channel: Option<Channel>, message: &mut Message) -> Turn
-    ensures { (plan : PlainPlan) (heard : PlainReply) → Did plan (seen result message.new.items heard) (course.select plan channel) }
+pub fn select(channel: &mut Option<Channel>, message: &mut Message) -> Turn
+    ensures { (plan : PlainPlan) (heard : PlainReply) → Did plan (seen result channel.new message.new.items heard) (course.select plan channel.old) }
 {
     send(
         channel,
@@ -127,21 +134,20 @@ pub fn select(channel: Option<Channel>, message: &mut Message) -> Turn
 }
 
 /// The application was selected.
-pub fn after_application(channel: Option<Channel>, reply: &Reply) -> Turn
-    ensures { (plan : PlainPlan) (message : List ℕ) (heard : PlainReply) → Did plan (seen result message heard)
-        (expecting steps.Select (λ selected. Passes steps.Select
-        (requests plan 0 plan.requests selected)) channel (plain_reply reply.now)) }
+pub fn after_application(reply: &Reply) -> Turn
+    ensures { (plan : PlainPlan) (channel : Option ChannelState) (message : List ℕ) (heard : PlainReply) → Did plan (seen result channel message heard)
+        (expecting steps.Select (λ selected. Passes steps.Select (requests plan 0 plan.requests selected)) channel (plain_reply reply.now)) }
 {
     if !is_done(reply) {
         return stopped(Step::Select, reply.status);
     }
-    passed(channel, Step::Select, Standing::Requests { place: 0 })
+    passed(Step::Select, Standing::Requests { place: 0 })
 }
 
 /// Goes on by the reply to a command of chip authentication, or to the selection behind it.
 pub fn hear<C: Coprocessor>(
     plan: &Plan,
-    channel: Option<Channel>,
+    channel: &mut Option<Channel>,
     command: ChipCommand,
     reply: &Reply,
     copro: &mut C,
@@ -149,11 +155,11 @@ pub fn hear<C: Coprocessor>(
 ) -> Turn
     requires { 1 ≤ (C.seen copro.old).spare }
     ensures { (heard : PlainReply) → let p = plan_view plan.now in
-        Comes (C.seen copro.old) (C.seen copro.new) p (seen result message.new.items heard) (after_chip p command channel (plain_reply reply.now)) }
+        Comes (C.seen copro.old) (C.seen copro.new) p (seen result channel.new message.new.items heard) (after_chip p command channel.old (plain_reply reply.now)) }
 {
     match command {
         ChipCommand::Selection { pair } => after_selection(channel, pair, reply, message),
-        ChipCommand::Proof { pair } => after_proof(plan, &pair, reply, copro),
-        ChipCommand::Application => after_application(channel, reply),
+        ChipCommand::Proof { pair } => after_proof(plan, channel, &pair, reply, copro),
+        ChipCommand::Application => after_application(reply),
     }
 }

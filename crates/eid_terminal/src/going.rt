@@ -4,16 +4,14 @@ ghost use Rattle.std.specs.Option.{option_copied};
 ghost use Rattle.eid_apdu.specs.Answer.{PlainReply, plain_reply};
 ghost use Rattle.eid_terminal.specs.Plans.{IsFit, plan_view};
 ghost use Rattle.eid_terminal.specs.Terminals as terminals;
-ghost use Rattle.eid_terminal.specs.Terminals.{Goes, behind_pace, course, with_password};
-ghost use Rattle.eid_terminal.specs.View.{Comes, Did, HasPlace, Heard, IsSound, later_of, move_made, ready_course, seen, state_view, step_of, terms_view};
+ghost use Rattle.eid_terminal.specs.Terminals.{Goes, behind_pace, course, move_made, with_password};
+ghost use Rattle.eid_terminal.specs.View.{Comes, Did, HasPlace, Heard, IsSound, later_of, ready_course, seen, state_view, step_of, terms_view};
 
-use crate::action::Step;
+use crate::action::{Message, Step};
 use crate::line::receive;
 use crate::plan::Plan;
 use crate::requests::{self, last_step};
-use crate::state::{
-    Awaited, ChipCommand, Message, Ready, Round, Standing, State, Terms, Turn, Waiting,
-};
+use crate::state::{Awaited, ChipCommand, Round, Standing, State, Terms, Turn};
 use crate::turns::stopped;
 use crate::{authentication, chip, pace};
 use arrayvec::ArrayVec;
@@ -53,19 +51,20 @@ fn password_terms(plan: &Plan) -> Terms
 }
 
 /// Begins the PACE with the password.
-fn begin_with_password(plan: &Plan, channel: Option<Channel>, message: &mut Message) -> Turn
-    ensures { (heard : PlainReply) → Did (plan_view plan.now) (seen result message.new.items heard) (with_password (plan_view plan.now) channel) }
+fn begin_with_password(plan: &Plan, channel: &mut Option<Channel>, message: &mut Message) -> Turn
+    ensures { (heard : PlainReply) → Did (plan_view plan.now) (seen result channel.new message.new.items heard) (with_password (plan_view plan.now) channel.old) }
 {
     pace::begin(channel, Round::Password, password_terms(plan), message)
 }
 
 /// Begins the first PACE.
-fn begin(plan: &Plan, message: &mut Message) -> Turn
-    ensures { (heard : PlainReply) → Did (plan_view plan.now) (seen result message.new.items heard) (course (plan_view plan.now)) }
+fn begin(plan: &Plan, channel: &mut Option<Channel>, message: &mut Message) -> Turn
+    ensures { (heard : PlainReply) → Did (plan_view plan.now) (seen result channel.new message.new.items heard) (course (plan_view plan.now)) }
 {
+    *channel = None;
     match &plan.can_first {
-        Some(can) => pace::begin(None, Round::Can, can_terms(can), message),
-        None => begin_with_password(plan, None, message),
+        Some(can) => pace::begin(channel, Round::Can, can_terms(can), message),
+        None => begin_with_password(plan, channel, message),
     }
 }
 
@@ -73,15 +72,15 @@ fn begin(plan: &Plan, message: &mut Message) -> Turn
 /// requests.
 fn go_on_behind_pace<C: Coprocessor>(
     plan: &Plan,
-    channel: Option<Channel>,
+    channel: &mut Option<Channel>,
     identity: [u8; 32],
     copro: &mut C,
     message: &mut Message,
 ) -> Turn
     requires fit { IsFit (plan_view plan.now) }
     requires room { 1 ≤ (C.seen copro.old).spare }
-    ensures { (heard : PlainReply) → Comes (C.seen copro.old) (C.seen copro.new) (plan_view plan.now) (seen result message.new.items heard)
-        (behind_pace (plan_view plan.now) channel identity) }
+    ensures { (heard : PlainReply) → Comes (C.seen copro.old) (C.seen copro.new) (plan_view plan.now) (seen result channel.new message.new.items heard)
+        (behind_pace (plan_view plan.now) channel.old identity) }
 {
     if plan.certificates.as_slice().is_empty() {
         return requests::ask(plan, channel, 0, message);
@@ -90,15 +89,20 @@ fn go_on_behind_pace<C: Coprocessor>(
 }
 
 /// Goes on without a reply.
-fn go_on<C: Coprocessor>(plan: &Plan, ready: Ready, copro: &mut C, message: &mut Message) -> Turn
+fn go_on<C: Coprocessor>(
+    plan: &Plan,
+    channel: &mut Option<Channel>,
+    standing: Standing,
+    copro: &mut C,
+    message: &mut Message,
+) -> Turn
     requires fit { IsFit (plan_view plan.now) }
     requires room { 1 ≤ (C.seen copro.old).spare }
-    ensures { (heard : PlainReply) → Comes (C.seen copro.old) (C.seen copro.new) (plan_view plan.now) (seen result message.new.items heard)
-        (ready_course (plan_view plan.now) ready.standing ready.channel) }
+    ensures { (heard : PlainReply) → Comes (C.seen copro.old) (C.seen copro.new) (plan_view plan.now) (seen result channel.new message.new.items heard)
+        (ready_course (plan_view plan.now) standing channel.old) }
 {
-    let Ready { channel, standing } = ready;
     match standing {
-        Standing::Start => begin(plan, message),
+        Standing::Start => begin(plan, channel, message),
         Standing::OpenedByCan => begin_with_password(plan, channel, message),
         Standing::Opened { identity } => go_on_behind_pace(plan, channel, identity, copro, message),
         Standing::TerminalProven { pair } => chip::begin(channel, pair, message),
@@ -123,7 +127,7 @@ fn step_of(plan: &Plan, awaited: &Awaited) -> Step
 /// Goes on by a reply.
 fn hear<C: Coprocessor>(
     plan: &Plan,
-    channel: Option<Channel>,
+    channel: &mut Option<Channel>,
     awaited: Awaited,
     reply: &Reply,
     copro: &mut C,
@@ -133,8 +137,8 @@ fn hear<C: Coprocessor>(
     requires there { HasPlace (plan_view plan.now) awaited }
     requires room { 2 ≤ (C.seen copro.old).spare }
     ensures { let p = plan_view plan.now in
-        Comes (C.seen copro.old) (C.seen copro.new) p (seen result message.new.items (plain_reply reply.now))
-        (later_of p awaited channel (plain_reply reply.now)) }
+        Comes (C.seen copro.old) (C.seen copro.new) p (seen result channel.new message.new.items (plain_reply reply.now))
+        (later_of p awaited channel.old (plain_reply reply.now)) }
 {
     match awaited {
         Awaited::Pace(command) => pace::hear(channel, command, reply, copro, message),
@@ -149,23 +153,20 @@ fn hear<C: Coprocessor>(
 /// Goes on by bytes that may be a reply, which is then heard.
 fn receive_and_hear<C: Coprocessor>(
     plan: &Plan,
-    waiting: Waiting,
+    channel: &mut Option<Channel>,
+    awaited: Awaited,
     bytes: &[u8],
     copro: &mut C,
     message: &mut Message,
     heard: &mut Reply,
 ) -> Turn
     requires fit { IsFit (plan_view plan.now) }
-    requires there { HasPlace (plan_view plan.now) waiting.awaited }
+    requires there { HasPlace (plan_view plan.now) awaited }
     requires room { 2 ≤ (C.seen copro.old).spare }
-    ensures { Heard (C.seen copro.old) (C.seen copro.new) (plan_view plan.now) waiting bytes.now
-        (seen result message.new.items (plain_reply heard.new)) }
+    ensures { Heard (C.seen copro.old) (C.seen copro.new) (plan_view plan.now) awaited channel.old bytes.now
+        (seen result channel.new message.new.items (plain_reply heard.new)) }
 {
-    let Waiting {
-        mut channel,
-        awaited,
-    } = waiting;
-    if !receive(&mut channel, bytes, heard) {
+    if !receive(channel, bytes, heard) {
         return stopped(step_of(plan, &awaited), NO_STATUS);
     }
     hear(plan, channel, awaited, heard, copro, message)
@@ -175,6 +176,7 @@ fn receive_and_hear<C: Coprocessor>(
 /// bytes, and `heard` the reply where one is due and can be read.
 pub fn take_turn<C: Coprocessor>(
     plan: &Plan,
+    channel: &mut Option<Channel>,
     state: State,
     reply: Option<&[u8]>,
     copro: &mut C,
@@ -183,18 +185,19 @@ pub fn take_turn<C: Coprocessor>(
 ) -> Turn
     requires fit { IsFit (plan_view plan.now) }
     requires there { IsSound (plan_view plan.now) state }
-    requires going { (state_view (plan_view plan.now) state).ended ≡ false }
-    requires due { is_some reply ≡ (state_view (plan_view plan.now) state).waits }
+    requires going { (state_view (plan_view plan.now) channel.old state).ended ≡ false }
+    requires due { is_some reply ≡ (state_view (plan_view plan.now) channel.old state).waits }
     requires room { 2 ≤ (C.seen copro.old).spare }
-    ensures goes { let p = plan_view plan.now in Goes (C.seen copro.old) (C.seen copro.new) (state_view p state) (state_view p result.state)
+    ensures goes { let p = plan_view plan.now in Goes (C.seen copro.old) (C.seen copro.new) (state_view p channel.old state) (state_view p channel.new result.state)
         (option_copied reply.entry) (move_made result.deed message.new.items (plain_reply heard.new)) }
     ensures there { IsSound (plan_view plan.now) result.state }
 {
     match state {
-        State::Ready(ready) => go_on(plan, ready, copro, message),
-        State::Waiting(waiting) => receive_and_hear(
+        State::Ready(standing) => go_on(plan, channel, standing, copro, message),
+        State::Waiting(awaited) => receive_and_hear(
             plan,
-            waiting,
+            channel,
+            awaited,
             reply.unwrap(),
             copro,
             message,

@@ -24,7 +24,7 @@ pub fn law_one_next()
 /// Along the course of a plan that can be carried out come at most 133 replies, passed steps and results.
 pub fn law_few_turns()
     ensures { (plan : PlainPlan) (asks : List Ask) (replies : List (List ℕ)) (given : ℕ) (at : Course)
-        → IsFit plan → Reached (course plan) asks replies given at → length replies + given ≤ MAX_TURNS }
+        → IsFit plan → Reached (course plan) asks replies given at → length replies + given ≤ 133 }
 {}
 
 /// A template has five bytes.

@@ -18,7 +18,7 @@ mod state;
 mod terminal;
 mod turns;
 
-pub use action::{Action, Step};
+pub use action::{Action, Deed, Message, Step};
 pub use law::{MAX_TURNS, law_few_turns, law_has_sizes, law_one_next};
 pub use plan::{Plan, Request};
 pub use replies::value_in;

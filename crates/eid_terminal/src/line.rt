@@ -9,7 +9,8 @@ ghost use Rattle.eid_terminal.specs.Exchanges.{counted};
 ghost use Rattle.eid_terminal.specs.Plans.{PlainPlan};
 ghost use Rattle.eid_terminal.specs.View.{Did, HasPlace, command_of, seen, waiting_course};
 
-use crate::state::{Awaited, Deed, Message, State, Turn, Waiting};
+use crate::action::{Deed, Message};
+use crate::state::{Awaited, State, Turn};
 use eid_apdu::{Command, Reply, read_reply, write_command};
 use eid_sm::{Channel, Header, MAX_PLAIN};
 
@@ -30,7 +31,7 @@ fn write_message(channel: &mut Option<Channel>, command: &Command<'_>, message: 
 
 /// Sends a command with this header and body, and waits for its reply.
 pub fn send(
-    channel: Option<Channel>,
+    channel: &mut Option<Channel>,
     awaited: Awaited,
     header: Header,
     body: &[u8],
@@ -40,12 +41,11 @@ pub fn send(
     requires expected { header.ne ≤ 65536 }
     requires class { IsPlainClass header.cla }
     ensures { (plan : PlainPlan) (heard : PlainReply) → plain_of header body.now ≡ command_of plan awaited → HasPlace plan awaited
-        → Did plan (seen result message.new.items heard) (waiting_course plan awaited (counted channel)) }
+        → Did plan (seen result channel.new message.new.items heard) (waiting_course plan awaited (counted channel.old)) }
 {
-    let mut channel = channel;
-    write_message(&mut channel, &header.with_body(body), message);
+    write_message(channel, &header.with_body(body), message);
     Turn {
-        state: State::Waiting(Waiting { channel, awaited }),
+        state: State::Waiting(awaited),
         deed: Deed::Send,
     }
 }

@@ -1,5 +1,5 @@
 //! PACE (BSI TR-03110-2 and TR-03110-3, generic mapping).
-ghost use Rattle.std.specs.Prelude.{◌≡◌, ◌≤◌, Option, ℕ, List};
+ghost use Rattle.std.specs.Prelude.{◌≡◌, ◌≤◌, Option, Some, ℕ, List};
 ghost use Rattle.eid_apdu.specs.Answer.{PlainReply, plain_reply};
 ghost use Rattle.eid_pace.specs.Keys as keys;
 ghost use Rattle.eid_sm.specs.Keys.{ChannelState};
@@ -8,19 +8,19 @@ ghost use Rattle.eid_terminal.specs.Pace.{channel_under, decrypted_nonce, token_
 ghost use Rattle.eid_terminal.specs.Plans.{PlainPlan};
 ghost use Rattle.eid_terminal.specs.View.{Comes, Did, after_pace, opened_after, ready_course, seen, terms_view};
 
-use crate::action::Step;
+use crate::action::{Message, Step};
 use crate::bodies::{authentication_data, no_data, pace_selection};
 use crate::headers::{AUTHENTICATE, AUTHENTICATE_CHAINED, SELECT_PACE};
 use crate::line::send;
 use crate::replies::{is_pace_selected, point_in, token_in, value_in};
-use crate::state::{Awaited, Message, PaceCommand, Pair, Round, Standing, Terms, Turn};
+use crate::state::{Awaited, PaceCommand, Pair, Round, Standing, Terms, Turn};
 use crate::turns::{failed, passed, stopped};
 use arrayvec::ArrayVec;
 use eid_aes::Aes;
 use eid_apdu::Reply;
 use eid_base::Point;
 use eid_bits::Known;
-use eid_cmac::derive;
+use eid_cmac::{SessionKeys, derive};
 use eid_copro::Coprocessor;
 use eid_pace::keys::{enc_key, identity_of, mac_key, token};
 use eid_sm::Channel;
@@ -60,17 +60,25 @@ fn token_for(shared: &[u8; 32], point: &Point) -> [u8; 8]
 }
 
 /// The channel that a PACE opens.
-fn channel_under(shared: &[u8; 32]) -> Option<Channel>
-    ensures { result ≡ channel_under (keys.enc_key shared.now) (keys.mac_key shared.now) }
+fn channel_under(shared: &[u8; 32]) -> Channel
+    ensures { Some result ≡ channel_under (keys.enc_key shared.now) (keys.mac_key shared.now) }
 {
-    Some(Channel::new(enc_key(shared), mac_key(shared)))
+    Channel::new(SessionKeys::Short {
+        enc: enc_key(shared),
+        mac: mac_key(shared),
+    })
 }
 
 /// Begins a PACE: the password is chosen.
 #[tactic(auto, unfolding(crate::specs::Pace::pace, crate::specs::Exchanges::exchange))]
-pub fn begin(channel: Option<Channel>, round: Round, terms: Terms, message: &mut Message) -> Turn
-    ensures { (plan : PlainPlan) (heard : PlainReply) → Did plan (seen result message.new.items heard)
-        (course.pace (terms_view terms) (opened_after plan round) channel) }
+pub fn begin(
+    channel: &mut Option<Channel>,
+    round: Round,
+    terms: Terms,
+    message: &mut Message,
+) -> Turn
+    ensures { (plan : PlainPlan) (heard : PlainReply) → Did plan (seen result channel.new message.new.items heard)
+        (course.pace (terms_view terms) (opened_after plan round) channel.old) }
 {
     let body = pace_selection(&terms);
     send(
@@ -85,14 +93,14 @@ pub fn begin(channel: Option<Channel>, round: Round, terms: Terms, message: &mut
 /// The password was chosen: asks for the nonce.
 #[tactic(auto, unfolding(crate::specs::Pace::after_selection, crate::specs::Exchanges::exchange))]
 pub fn after_selection(
-    channel: Option<Channel>,
+    channel: &mut Option<Channel>,
     round: Round,
     digits: ArrayVec<u8, 10>,
     reply: &Reply,
     message: &mut Message,
 ) -> Turn
-    ensures { (plan : PlainPlan) (heard : PlainReply) → Did plan (seen result message.new.items heard)
-        (course.after_selection digits.items (opened_after plan round) channel (plain_reply reply.now)) }
+    ensures { (plan : PlainPlan) (heard : PlainReply) → Did plan (seen result channel.new message.new.items heard)
+        (course.after_selection digits.items (opened_after plan round) channel.old (plain_reply reply.now)) }
 {
     if !is_pace_selected(reply) {
         return stopped(Step::Pace, reply.status);
@@ -108,7 +116,7 @@ pub fn after_selection(
 
 /// The nonce came: draws a pair, and sends its point.
 pub fn after_nonce<C: Coprocessor>(
-    channel: Option<Channel>,
+    channel: &mut Option<Channel>,
     round: Round,
     digits: &[u8],
     reply: &Reply,
@@ -116,8 +124,8 @@ pub fn after_nonce<C: Coprocessor>(
     message: &mut Message,
 ) -> Turn
     requires { 1 ≤ (C.seen copro.old).spare }
-    ensures { (plan : PlainPlan) (heard : PlainReply) → Comes (C.seen copro.old) (C.seen copro.new) plan (seen result message.new.items heard)
-        (course.after_nonce digits.now (opened_after plan round) channel (plain_reply reply.now)) }
+    ensures { (plan : PlainPlan) (heard : PlainReply) → Comes (C.seen copro.old) (C.seen copro.new) plan (seen result channel.new message.new.items heard)
+        (course.after_nonce digits.now (opened_after plan round) channel.old (plain_reply reply.now)) }
 {
     let Some(encrypted) = value_in::<16>(reply, NONCE) else {
         return stopped(Step::Pace, reply.status);
@@ -128,15 +136,15 @@ pub fn after_nonce<C: Coprocessor>(
 
 /// Draws a pair over the generator, and sends its point.
 fn send_mapping<C: Coprocessor>(
-    channel: Option<Channel>,
+    channel: &mut Option<Channel>,
     round: Round,
     nonce: [u8; 16],
     copro: &mut C,
     message: &mut Message,
 ) -> Turn
     requires { 1 ≤ (C.seen copro.old).spare }
-    ensures { (plan : PlainPlan) (heard : PlainReply) → Comes (C.seen copro.old) (C.seen copro.new) plan (seen result message.new.items heard)
-        (course.with_nonce nonce (opened_after plan round) channel) }
+    ensures { (plan : PlainPlan) (heard : PlainReply) → Comes (C.seen copro.old) (C.seen copro.new) plan (seen result channel.new message.new.items heard)
+        (course.with_nonce nonce (opened_after plan round) channel.old) }
 {
     let Ok(pair) = copro.pair(None) else {
         return failed(Step::Pace);
@@ -154,7 +162,7 @@ fn send_mapping<C: Coprocessor>(
 
 /// The chip's point came: maps the nonce to a base, and sends an ephemeral point over it.
 pub fn after_mapping<C: Coprocessor>(
-    channel: Option<Channel>,
+    channel: &mut Option<Channel>,
     round: Round,
     nonce: &[u8; 16],
     pair: &Pair,
@@ -163,8 +171,8 @@ pub fn after_mapping<C: Coprocessor>(
     message: &mut Message,
 ) -> Turn
     requires { 2 ≤ (C.seen copro.old).spare }
-    ensures { (plan : PlainPlan) (heard : PlainReply) → Comes (C.seen copro.old) (C.seen copro.new) plan (seen result message.new.items heard)
-        (course.after_mapping nonce.now pair.now.secret pair.now.point (opened_after plan round) channel (plain_reply reply.now)) }
+    ensures { (plan : PlainPlan) (heard : PlainReply) → Comes (C.seen copro.old) (C.seen copro.new) plan (seen result channel.new message.new.items heard)
+        (course.after_mapping nonce.now pair.now.secret pair.now.point (opened_after plan round) channel.old (plain_reply reply.now)) }
 {
     let Some(peer) = point_in(reply, MAPPING_REPLY) else {
         return stopped(Step::Pace, reply.status);
@@ -183,15 +191,15 @@ pub fn after_mapping<C: Coprocessor>(
 
 /// Draws an ephemeral pair over the base, and sends its point.
 fn send_ephemeral<C: Coprocessor>(
-    channel: Option<Channel>,
+    channel: &mut Option<Channel>,
     round: Round,
     base: &Point,
     copro: &mut C,
     message: &mut Message,
 ) -> Turn
     requires { 1 ≤ (C.seen copro.old).spare }
-    ensures { (plan : PlainPlan) (heard : PlainReply) → Comes (C.seen copro.old) (C.seen copro.new) plan (seen result message.new.items heard)
-        (course.with_base base.now (opened_after plan round) channel) }
+    ensures { (plan : PlainPlan) (heard : PlainReply) → Comes (C.seen copro.old) (C.seen copro.new) plan (seen result channel.new message.new.items heard)
+        (course.with_base base.now (opened_after plan round) channel.old) }
 {
     let Ok(pair) = copro.pair(Some(base)) else {
         return failed(Step::Pace);
@@ -209,7 +217,7 @@ fn send_ephemeral<C: Coprocessor>(
 
 /// The chip's ephemeral point came: agrees on a secret, and sends the token for that point.
 pub fn after_agreement<C: Coprocessor>(
-    channel: Option<Channel>,
+    channel: &mut Option<Channel>,
     round: Round,
     pair: &Pair,
     reply: &Reply,
@@ -217,8 +225,8 @@ pub fn after_agreement<C: Coprocessor>(
     message: &mut Message,
 ) -> Turn
     requires { 1 ≤ (C.seen copro.old).spare }
-    ensures { (plan : PlainPlan) (heard : PlainReply) → Comes (C.seen copro.old) (C.seen copro.new) plan (seen result message.new.items heard)
-        (course.after_agreement pair.now.secret pair.now.point (opened_after plan round) channel (plain_reply reply.now)) }
+    ensures { (plan : PlainPlan) (heard : PlainReply) → Comes (C.seen copro.old) (C.seen copro.new) plan (seen result channel.new message.new.items heard)
+        (course.after_agreement pair.now.secret pair.now.point (opened_after plan round) channel.old (plain_reply reply.now)) }
 {
     let Some(peer) = point_in(reply, EPHEMERAL_REPLY) else {
         return stopped(Step::Pace, reply.status);
@@ -260,14 +268,15 @@ fn standing_behind(round: Round, identity: [u8; 32]) -> Standing
 /// The chip's token came: it has to be the one for the terminal's ephemeral point.
 #[tactic(auto, unfolding(crate::specs::Pace::after_token))]
 pub fn after_token(
+    channel: &mut Option<Channel>,
     round: Round,
     shared: &[u8; 32],
     point: &Point,
     peer: &Point,
     reply: &Reply,
 ) -> Turn
-    ensures { (plan : PlainPlan) (message : List ℕ) (heard : PlainReply) (channel : Option ChannelState) → Did plan (seen result message heard)
-        (course.after_token shared.now point.now peer.now (opened_after plan round) channel (plain_reply reply.now)) }
+    ensures { (plan : PlainPlan) (message : List ℕ) (heard : PlainReply) → Did plan (seen result channel.new message heard)
+        (course.after_token shared.now point.now peer.now (opened_after plan round) channel.old (plain_reply reply.now)) }
 {
     let Some(found) = token_in(reply) else {
         return stopped(Step::Pace, reply.status);
@@ -275,24 +284,21 @@ pub fn after_token(
     if found != token_for(shared, point) {
         return stopped(Step::Pace, reply.status);
     }
-    passed(
-        channel_under(shared),
-        Step::Pace,
-        standing_behind(round, identity_of(peer)),
-    )
+    *channel = Some(channel_under(shared));
+    passed(Step::Pace, standing_behind(round, identity_of(peer)))
 }
 
 /// Goes on by the reply to a command of PACE.
 pub fn hear<C: Coprocessor>(
-    channel: Option<Channel>,
+    channel: &mut Option<Channel>,
     command: PaceCommand,
     reply: &Reply,
     copro: &mut C,
     message: &mut Message,
 ) -> Turn
     requires { 2 ≤ (C.seen copro.old).spare }
-    ensures { (plan : PlainPlan) (heard : PlainReply) → Comes (C.seen copro.old) (C.seen copro.new) plan (seen result message.new.items heard)
-        (after_pace plan command channel (plain_reply reply.now)) }
+    ensures { (plan : PlainPlan) (heard : PlainReply) → Comes (C.seen copro.old) (C.seen copro.new) plan (seen result channel.new message.new.items heard)
+        (after_pace plan command channel.old (plain_reply reply.now)) }
 {
     match command {
         PaceCommand::Selection { round, terms } => {
@@ -312,6 +318,6 @@ pub fn hear<C: Coprocessor>(
             shared,
             point,
             peer,
-        } => after_token(round, &shared, &point, &peer, reply),
+        } => after_token(channel, round, &shared, &point, &peer, reply),
     }
 }

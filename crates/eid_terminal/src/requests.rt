@@ -1,5 +1,5 @@
 //! The requests, one after the other (BSI TR-03110-2 and TR-03110-4).
-ghost use Rattle.std.specs.Prelude.{◌≡◌, ◌+◌, ◌≤◌, ◌<◌, length, slice_get, IsSome, ℕ, List};
+ghost use Rattle.std.specs.Prelude.{◌≡◌, ◌+◌, ◌≤◌, ◌<◌, length, slice_get, IsSome, ℕ, List, Option};
 ghost use Rattle.eid_apdu.specs.Answer.{PlainReply, plain_reply};
 ghost use Rattle.eid_sm.specs.Keys.{ChannelState};
 ghost use Rattle.eid_terminal.specs.Courses.{Gives};
@@ -7,13 +7,13 @@ ghost use Rattle.eid_terminal.specs.Plans.{CanBeAsked, IsFit, PlainPlan, plan_vi
 ghost use Rattle.eid_terminal.specs.Requests.{after_command, after_identification, after_protocol, lacks_identifier, last_step, sector_of};
 ghost use Rattle.eid_terminal.specs.View.{Did, HasRequest, after_request, requests_from, seen};
 
-use crate::action::Step;
+use crate::action::{Deed, Message, Step};
 use crate::bodies::{authentication_data, protocol_selection, verification};
 use crate::headers::{AUTHENTICATE, SELECT_PROTOCOL, VERIFY};
 use crate::line::send;
 use crate::plan::{Plan, Request};
 use crate::replies::{is_success, value_in};
-use crate::state::{Awaited, Deed, Ending, Message, Ready, RequestCommand, Standing, State, Turn};
+use crate::state::{Awaited, Ending, RequestCommand, Standing, State, Turn};
 use crate::turns::stopped;
 use eid_apdu::Reply;
 use eid_bits::Known;
@@ -46,9 +46,9 @@ fn request_at(plan: &Plan, place: u8) -> Option<Request>
 }
 
 /// Sends the first command of the request at this place; behind the last one all is done.
-pub fn ask(plan: &Plan, channel: Option<Channel>, place: u8, message: &mut Message) -> Turn
+pub fn ask(plan: &Plan, channel: &mut Option<Channel>, place: u8, message: &mut Message) -> Turn
     requires { IsFit (plan_view plan.now) }
-    ensures { (heard : PlainReply) → Did (plan_view plan.now) (seen result message.new.items heard) (requests_from (plan_view plan.now) place channel) }
+    ensures { (heard : PlainReply) → Did (plan_view plan.now) (seen result channel.new message.new.items heard) (requests_from (plan_view plan.now) place channel.old) }
 {
     let Some(request) = request_at(plan, place) else {
         return Turn {
@@ -105,14 +105,14 @@ fn read(number: u8) -> Header
 }
 
 /// The reply that was heard is the result of the request at this place.
-fn give(channel: Option<Channel>, place: u8) -> Turn
+fn give(place: u8) -> Turn
     requires { place < 255 }
-    ensures { (plan : PlainPlan) (message : List ℕ) (heard : PlainReply) → Did plan (seen result message heard)
+    ensures { (plan : PlainPlan) (channel : Option ChannelState) (message : List ℕ) (heard : PlainReply) → Did plan (seen result channel message heard)
         (Gives place heard (requests_from plan (place + 1) channel)) }
 {
     let standing = Standing::Requests { place: place + 1 };
     Turn {
-        state: State::Ready(Ready { channel, standing }),
+        state: State::Ready(standing),
         deed: Deed::Result { request: place },
     }
 }
@@ -120,7 +120,7 @@ fn give(channel: Option<Channel>, place: u8) -> Turn
 /// The reply to the first command of the request at this place came.
 pub fn after_answer(
     plan: &Plan,
-    channel: Option<Channel>,
+    channel: &mut Option<Channel>,
     request: Request,
     place: u8,
     reply: &Reply,
@@ -130,19 +130,19 @@ pub fn after_answer(
     requires there { place < length (plan_view plan.now).requests }
     requires asked { CanBeAsked (plan_view plan.now).sector request }
     ensures { let p = plan_view plan.now in
-        Did p (seen result message.new.items (plain_reply reply.now))
-        (after_command (last_step p) (sector_of p) place request (requests_from p (place + 1)) channel (plain_reply reply.now)) }
+        Did p (seen result channel.new message.new.items (plain_reply reply.now))
+        (after_command (last_step p) (sector_of p) place request (requests_from p (place + 1)) channel.old (plain_reply reply.now)) }
 {
     match request {
         Request::Ri => after_protocol(plan, channel, place, reply, message),
-        _ => give(channel, place),
+        _ => give(place),
     }
 }
 
 /// Restricted identification was selected: sends the sector key.
 fn after_protocol(
     plan: &Plan,
-    channel: Option<Channel>,
+    channel: &mut Option<Channel>,
     place: u8,
     reply: &Reply,
     message: &mut Message,
@@ -151,11 +151,11 @@ fn after_protocol(
     requires there { place < length (plan_view plan.now).requests }
     requires sector { IsSome (plan_view plan.now).sector }
     ensures { let p = plan_view plan.now in
-        Did p (seen result message.new.items (plain_reply reply.now))
-        (after_protocol (last_step p) (sector_of p) place (requests_from p (place + 1)) channel (plain_reply reply.now)) }
+        Did p (seen result channel.new message.new.items (plain_reply reply.now))
+        (after_protocol (last_step p) (sector_of p) place (requests_from p (place + 1)) channel.old (plain_reply reply.now)) }
 {
     if !is_success(reply) {
-        return give(channel, place);
+        return give(place);
     }
     let sector = plan.sector.as_ref().unwrap();
     let body = authentication_data(SECTOR, &token_object(Known::RiSha256, sector));
@@ -176,36 +176,36 @@ fn lacks_identifier(reply: &Reply) -> bool
 }
 
 /// The reply to the sector key came: a success has to hold the identifier.
-pub fn after_identifier(plan: &Plan, channel: Option<Channel>, place: u8, reply: &Reply) -> Turn
+pub fn after_identifier(plan: &Plan, place: u8, reply: &Reply) -> Turn
     requires fit { IsFit (plan_view plan.now) }
     requires there { place < length (plan_view plan.now).requests }
-    ensures { (message : List ℕ) → let p = plan_view plan.now in
-        Did p (seen result message (plain_reply reply.now))
+    ensures { (channel : Option ChannelState) (message : List ℕ) → let p = plan_view plan.now in
+        Did p (seen result channel message (plain_reply reply.now))
         (after_identification (last_step p) place (requests_from p (place + 1)) channel (plain_reply reply.now)) }
 {
     if lacks_identifier(reply) {
         return stopped(last_step(plan), reply.status);
     }
-    give(channel, place)
+    give(place)
 }
 
 /// Goes on by the reply to a command of a request.
 pub fn hear(
     plan: &Plan,
-    channel: Option<Channel>,
+    channel: &mut Option<Channel>,
     command: RequestCommand,
     reply: &Reply,
     message: &mut Message,
 ) -> Turn
     requires fit { IsFit (plan_view plan.now) }
     requires there { HasRequest (plan_view plan.now) command }
-    ensures { let p = plan_view plan.now in Did p (seen result message.new.items (plain_reply reply.now))
-        (after_request p command channel (plain_reply reply.now)) }
+    ensures { let p = plan_view plan.now in Did p (seen result channel.new message.new.items (plain_reply reply.now))
+        (after_request p command channel.old (plain_reply reply.now)) }
 {
     match command {
         RequestCommand::First { request, place } => {
             after_answer(plan, channel, request, place, reply, message)
         }
-        RequestCommand::Sector { place } => after_identifier(plan, channel, place, reply),
+        RequestCommand::Sector { place } => after_identifier(plan, place, reply),
     }
 }

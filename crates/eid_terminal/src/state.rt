@@ -1,11 +1,10 @@
 //! Where a terminal stands between two calls.
-use crate::action::Step;
+use crate::action::{Deed, Step};
 use crate::plan::Request;
 use arrayvec::ArrayVec;
 use eid_base::{Point, Secret, Signature, Status};
 use eid_bits::Template;
 use eid_record::Password;
-use eid_sm::{Channel, MAX_MESSAGE};
 
 /// What a PACE is made with.
 #[derive(Drop)]
@@ -142,46 +141,15 @@ pub enum Ending {
     Fault { step: Step },
 }
 
-/// A command was sent, in the channel that counted it, if one is open.
-#[derive(Drop)]
-pub struct Waiting {
-    pub channel: Option<Channel>,
-    pub awaited: Awaited,
-}
-
-/// No reply is due.
-#[derive(Drop)]
-pub struct Ready {
-    pub channel: Option<Channel>,
-    pub standing: Standing,
-}
-
-/// Where a terminal stands.
+/// Where a terminal stands, apart from its channel.
 #[derive(Drop)]
 pub enum State {
-    Waiting(Waiting),
-    Ready(Ready),
+    /// A command was sent, which the channel counted where one is open.
+    Waiting(Awaited),
+    /// No reply is due.
+    Ready(Standing),
+    /// Nothing comes any more, and the channel is not used again.
     Ended(Ending),
-}
-
-/// The bytes of a command.
-pub type Message = ArrayVec<u8, MAX_MESSAGE>;
-
-/// What a terminal does in a turn; the bytes that it sends, and the reply that is a result, stand beside it.
-#[derive(Clone, Copy)]
-pub enum Deed {
-    /// It sends a command.
-    Send,
-    /// The request at this place has a result: the reply that was heard.
-    Result { request: u8 },
-    /// A step succeeded.
-    Passed { step: Step },
-    /// All is done.
-    Done,
-    /// A step did not succeed.
-    Stopped { step: Step, status: Status },
-    /// The coprocessor failed.
-    Fault { step: Step },
 }
 
 /// What a terminal does, and where it stands then.

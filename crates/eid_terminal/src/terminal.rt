@@ -2,17 +2,18 @@
 ghost use Rattle.std.specs.Prelude.{◌≡◌};
 ghost use Rattle.eid_apdu.specs.Answer.{plain_reply};
 ghost use Rattle.eid_terminal.specs.Plans.{IsFit, plan_view};
-ghost use Rattle.eid_terminal.specs.Terminals.{move_seen};
-ghost use Rattle.eid_terminal.specs.View.{IsSound, move_made};
+ghost use Rattle.eid_terminal.specs.Terminals.{move_made, move_seen};
+ghost use Rattle.eid_terminal.specs.View.{IsSound};
 
-use crate::action::Action;
+use crate::action::{Action, Deed, Message};
 use crate::going::take_turn;
 use crate::plan::Plan;
-use crate::state::{Deed, Ending, Message, Ready, Standing, State};
+use crate::state::{Ending, Standing, State};
 use arrayvec::ArrayVec;
 use eid_apdu::Reply;
 use eid_base::Status;
 use eid_copro::Coprocessor;
+use eid_sm::Channel;
 use std::mem;
 
 /// The action that a turn comes to, with the bytes that it wrote and the reply that it heard.
@@ -36,6 +37,7 @@ fn action_of(deed: Deed, message: Message, heard: Reply) -> Action
 #[derive(Drop)]
 pub struct Terminal {
     plan: Plan,
+    channel: Option<Channel>,
     state: State,
     // The plan can be carried out, and the places of the state are there.
     pub ghost fit: { ∥ IsFit (plan_view plan) ∥₁ },
@@ -46,7 +48,7 @@ impl Terminal {
     ghost use Rattle.std.specs.Prelude.{◌≡◌, ◌≤◌, false, is_some};
     ghost use Rattle.std.specs.Option.{option_copied};
     ghost use Rattle.eid_terminal.specs.Seen.{terminal_view};
-    ghost use Rattle.eid_terminal.specs.Terminals.{Goes, begun, move_seen};
+    ghost use Rattle.eid_terminal.specs.Terminals.{Goes, begun, move_made, move_seen};
 
     /// A terminal before its first command.
     #[tactic(auto, unfolding(crate::specs::Seen::terminal_view))]
@@ -56,10 +58,8 @@ impl Terminal {
     {
         Terminal {
             plan,
-            state: State::Ready(Ready {
-                channel: None,
-                standing: Standing::Start,
-            }),
+            channel: None,
+            state: State::Ready(Standing::Start),
         }
     }
 
@@ -89,9 +89,38 @@ impl Terminal {
             content: ArrayVec::new(),
             status: Status(0),
         };
+        let deed = self.next_in(reply, copro, &mut message, &mut heard);
+        action_of(deed, message, heard)
+    }
+
+    /// What `next` does, with the command that it sends written into `message`, and the reply that it heard into
+    /// `heard`. What they held before is not looked at. Afterwards they may hold anything, but for the command where one
+    /// is sent, and the reply where it is a result.
+    #[tactic(auto, unfolding(crate::specs::Seen::terminal_view))]
+    pub fn next_in<C: Coprocessor>(
+        &mut self,
+        reply: Option<&[u8]>,
+        copro: &mut C,
+        message: &mut Message,
+        heard: &mut Reply,
+    ) -> Deed
+        requires going { (terminal_view self.old).ended ≡ false }
+        requires due { is_some reply ≡ (terminal_view self.old).waits }
+        requires room { 3 ≤ (C.seen copro.old).spare }
+        ensures { Goes (C.seen copro.old) (C.seen copro.new) (terminal_view self.old) (terminal_view self.new)
+            (option_copied reply.entry) (move_made result message.new.items (plain_reply heard.new)) }
+    {
         let state = mem::replace(&mut self.state, State::Ended(Ending::Done));
-        let turn = take_turn(&self.plan, state, reply, copro, &mut message, &mut heard);
+        let turn = take_turn(
+            &self.plan,
+            &mut self.channel,
+            state,
+            reply,
+            copro,
+            message,
+            heard,
+        );
         self.state = turn.state;
-        action_of(turn.deed, message, heard)
+        turn.deed
     }
 }

@@ -5,12 +5,13 @@ use crate::words::{Answer, Unanswered, all_bytes, buffer, number, shown, three, 
 use arrayvec::ArrayVec;
 use eid_apdu::{Command, Reply};
 use eid_base::Status;
+use eid_cmac::SessionKeys;
 use eid_sm::{Channel, MAX_MESSAGE, MAX_PLAIN, SmError};
 use std::alloc::Global;
 
 /// The channel under these keys after so many messages.
 fn channel(enc: [u8; 16], mac: [u8; 16], count: u32) -> Channel {
-    let mut channel = Channel::new(enc, mac);
+    let mut channel = Channel::new(SessionKeys::Short { enc, mac });
     let mut out = ArrayVec::new();
     let any = Command {
         cla: 0,

@@ -11,6 +11,7 @@ use crate::words::{
 use arrayvec::ArrayVec;
 use eid_base::{Point, Rule};
 use eid_bits::{Date6, Template};
+use eid_cmac::SessionKeys;
 use eid_copro::{AnyCopro, Coprocessor};
 use eid_pace::{Agreed, Chosen, Done, Mapped, NonceSent};
 use eid_record::{Password, Record, TrustPoint};
@@ -236,13 +237,14 @@ impl Talk {
             Some(template) => self.put("template", template.as_bytes())?,
             None => self.put("template", &[])?,
         }
+        let SessionKeys::Short { enc, mac } = &done.keys;
         let pieces = [
             Piece::Text(" identity "),
             Piece::Bytes(&done.identity),
             Piece::Text(" enc "),
-            Piece::Bytes(&done.enc),
+            Piece::Bytes(enc),
             Piece::Text(" mac "),
-            Piece::Bytes(&done.mac),
+            Piece::Bytes(mac),
         ];
         put_pieces(self.alloc, &pieces, &mut self.sent)
     }

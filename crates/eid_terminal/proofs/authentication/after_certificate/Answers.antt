@@ -7,7 +7,7 @@ use Rattle.eid_terminal.proofs.authentication.after_certificate.Goals as goal
 
 pub returns-then-not-is_done : goal.returns-then-not-is_done
 returns-then-not-is_done g c heard =
-    came_now _ (plan_view c.args.plan.now) _ _ _ (unexpected _ _ _ _ (sym c.if-not-is_done.ensures)) refl (c.stopped.ensures (plan_view c.args.plan.now) _ _)
+    came_now _ (plan_view c.args.plan.now) _ _ _ (unexpected _ _ _ _ (sym c.if-not-is_done.ensures)) refl (c.stopped.ensures (plan_view c.args.plan.now) _ _ _)
 
 pub returns : goal.returns
 returns g c heard = came_at _ _ (plan_view c.args.plan.now) _ _ _ (expected _ _ _ _ (sym c.if-not-is_done.ensures)) (c.import.ensures _)

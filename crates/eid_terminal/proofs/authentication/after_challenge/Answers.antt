@@ -12,14 +12,14 @@ use Rattle.eid_terminal.proofs.AuthenticationSteps.{no_challenge, challenge_came
 use Rattle.eid_terminal.proofs.authentication.after_challenge.Goals as goal
 
 pub returns-in_default : goal.returns-in_default
-returns-in_default g c heard = came_now _ (plan_view c.args.plan.now) _ _ _ (no_challenge _ _ _ _ _ _ (sym c.in_default.ensures)) refl (c.stopped.ensures (plan_view c.args.plan.now) _ _)
+returns-in_default g c heard = came_now _ (plan_view c.args.plan.now) _ _ _ (no_challenge _ _ _ _ _ _ (sym c.in_default.ensures)) refl (c.stopped.ensures (plan_view c.args.plan.now) _ _ _)
 
 pub returns-in_default-sign : goal.returns-in_default-sign
 returns-in_default-sign g c heard =
     let digest = c.digest-digest.ensures ∙ ap (λ (extra : List ℕ). sha256 (to_sign c.args.identity.now c.in-Some.challenge c.args.pair.point extra)) (c.deref.ensures.0 ∙ c.auxiliary.ensures.items) in
     came_fault _ _ (plan_view c.args.plan.now) _ _ _ _ _ (challenge_came _ _ _ _ _ _ _ (sym c.in-Some.ensures)) refl
     (subst (λ (d : List ℕ). Asked (g.C.Coprocessor.seen c.args.copro.now) (g.C.Coprocessor.seen c.sign.new.self) (questions.Sign c.args.plan.now.terminal_secret d) answers.Fault) digest c.in_default-sign.ensures)
-    (c.failed.ensures (plan_view c.args.plan.now) _ _)
+    (c.failed.ensures (plan_view c.args.plan.now) _ _ _)
 
 pub returns : goal.returns
 returns g c heard =

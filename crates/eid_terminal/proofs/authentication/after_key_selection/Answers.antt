@@ -13,7 +13,7 @@ pub unwrap-certificate-requires : goal.unwrap-certificate-requires
 unwrap-certificate-requires c = some_within (plan_view c.args.plan.now).certificates c.args.place c.certificate_at.result c.certificate_at.ensures c.requires.there
 
 pub returns-then-not-is_done : goal.returns-then-not-is_done
-returns-then-not-is_done c heard = did_at (plan_view c.args.plan.now) _ _ _ (unexpected _ _ _ _ (sym c.if-not-is_done.ensures)) (c.stopped.ensures (plan_view c.args.plan.now) _ _)
+returns-then-not-is_done c heard = did_at (plan_view c.args.plan.now) _ _ _ (unexpected _ _ _ _ (sym c.if-not-is_done.ensures)) (c.stopped.ensures (plan_view c.args.plan.now) _ _ _)
 
 pub send-requires-clause-body : goal.send-requires-clause-body
 send-requires-clause-body c =

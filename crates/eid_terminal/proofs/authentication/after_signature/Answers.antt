@@ -5,7 +5,7 @@ use Rattle.eid_terminal.proofs.AuthenticationSteps.{expected, unexpected}
 use Rattle.eid_terminal.proofs.authentication.after_signature.Goals as goal
 
 pub returns-then-not-is_done : goal.returns-then-not-is_done
-returns-then-not-is_done c plan message heard = did_at plan _ _ _ (unexpected _ _ _ _ (sym c.if-not-is_done.ensures)) (c.stopped.ensures plan _ _)
+returns-then-not-is_done c plan channel message heard = did_at plan _ _ _ (unexpected _ _ _ _ (sym c.if-not-is_done.ensures)) (c.stopped.ensures plan _ _ _)
 
 pub returns : goal.returns
-returns c plan message heard = did_at plan _ _ _ (expected _ _ _ _ (sym c.if-not-is_done.ensures)) (c.passed.ensures plan _ _)
+returns c plan channel message heard = did_at plan _ _ _ (expected _ _ _ _ (sym c.if-not-is_done.ensures)) (c.passed.ensures plan _ _ _)

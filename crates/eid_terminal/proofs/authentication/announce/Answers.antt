@@ -12,7 +12,7 @@ use Rattle.eid_terminal.proofs.AuthenticationSteps.{announcement_drawn}
 use Rattle.eid_terminal.proofs.authentication.announce.Goals as goal
 
 pub returns-in_default : goal.returns-in_default
-returns-in_default g c heard = came_fault _ _ (plan_view c.args.plan.now) _ _ _ _ _ (announcement_drawn _ _ _) refl c.in_default.ensures (c.failed.ensures (plan_view c.args.plan.now) _ _)
+returns-in_default g c heard = came_fault _ _ (plan_view c.args.plan.now) _ _ _ _ _ (announcement_drawn _ _ _) refl c.in_default.ensures (c.failed.ensures (plan_view c.args.plan.now) _ _ _)
 
 pub returns : goal.returns
 returns g c heard =

@@ -10,15 +10,15 @@ use Rattle.eid_terminal.proofs.authentication.hear.Goals as goal
 
 pub returns-in-KeySelection : goal.returns-in-KeySelection
 returns-in-KeySelection g c heard =
-    came_at _ _ _ _ _ _ (ap (λ (x : TerminalCommand). after_terminal (plan_view c.args.plan.now) x c.args.channel (plain_reply c.args.reply.now)) c.in-KeySelection.is)
+    came_at _ _ _ _ _ _ (ap (λ (x : TerminalCommand). after_terminal (plan_view c.args.plan.now) x c.args.channel.now (plain_reply c.args.reply.now)) c.in-KeySelection.is)
     (came_calm _ _ _ _ (calm_expecting _ _ _ _ (λ channel. calm_exchange _ _ _ channel)) (c.after_key_selection.ensures _))
 
 pub returns-in-Announcement : goal.returns-in-Announcement
 returns-in-Announcement g c heard =
-    came_at _ _ _ _ _ _ (ap (λ (x : TerminalCommand). after_terminal (plan_view c.args.plan.now) x c.args.channel (plain_reply c.args.reply.now)) c.in-Announcement.is)
+    came_at _ _ _ _ _ _ (ap (λ (x : TerminalCommand). after_terminal (plan_view c.args.plan.now) x c.args.channel.now (plain_reply c.args.reply.now)) c.in-Announcement.is)
     (came_calm _ _ _ _ (calm_expecting _ _ _ _ (λ channel. calm_exchange _ _ _ channel)) (c.after_announcement.ensures (plan_view c.args.plan.now) _))
 
 pub returns-in-Signature : goal.returns-in-Signature
 returns-in-Signature g c heard =
-    came_at _ _ _ _ _ _ (ap (λ (x : TerminalCommand). after_terminal (plan_view c.args.plan.now) x c.args.channel (plain_reply c.args.reply.now)) c.in-Signature.is)
-    (came_calm _ _ _ _ (calm_expecting _ _ _ _ (λ channel. refl)) (c.after_signature.ensures (plan_view c.args.plan.now) _ _))
+    came_at _ _ _ _ _ _ (ap (λ (x : TerminalCommand). after_terminal (plan_view c.args.plan.now) x c.args.channel.now (plain_reply c.args.reply.now)) c.in-Signature.is)
+    (came_calm _ _ _ _ (calm_expecting _ _ _ _ (λ channel. refl)) (c.after_signature.ensures (plan_view c.args.plan.now) _ _ _))

@@ -11,4 +11,4 @@ use Rattle.eid_terminal.proofs.going.begin_with_password.Goals as goal
 pub returns : goal.returns
 returns c heard =
     let plan = plan_view c.args.plan.now in
-    did_at plan _ _ _ (password_comes plan c.args.channel ∙ ap (λ terms. pace terms (opened_after plan rounds.Password) c.args.channel) (sym c.password_terms.ensures)) (c.begin.ensures plan _)
+    did_at plan _ _ _ (password_comes plan c.args.channel.now ∙ ap (λ terms. pace terms (opened_after plan rounds.Password) c.args.channel.now) (sym c.password_terms.ensures)) (c.begin.ensures plan _)

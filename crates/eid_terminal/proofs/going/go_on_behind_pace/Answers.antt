@@ -11,9 +11,9 @@ use Rattle.eid_terminal.proofs.going.go_on_behind_pace.Goals as goal
 pub returns-then-is_empty : goal.returns-then-is_empty
 returns-then-is_empty g c heard =
     let plan = plan_view c.args.plan.now in
-    came_at _ _ plan _ _ _ (without_certificates plan c.args.channel c.args.identity (none_there c.args.plan.now.certificates.items (ap (λ (list : List (Vec ℕ Global)). length list == 0) (sym c.as_slice.ensures.value) ∙ sym c.if-is_empty.ensures))) (came_calm _ plan _ _ (calm_requests plan 0 plan.requests c.args.channel) (c.ask.ensures _))
+    came_at _ _ plan _ _ _ (without_certificates plan c.args.channel.now c.args.identity (none_there c.args.plan.now.certificates.items (ap (λ (list : List (Vec ℕ Global)). length list == 0) (sym c.as_slice.ensures.value) ∙ sym c.if-is_empty.ensures))) (came_calm _ plan _ _ (calm_requests plan 0 plan.requests c.args.channel.now) (c.ask.ensures _))
 
 pub returns : goal.returns
 returns g c heard =
     let plan = plan_view c.args.plan.now in
-    came_at _ _ plan _ _ _ (with_certificates plan c.args.channel c.args.identity (some_there c.args.plan.now.certificates.items (ap (λ (list : List (Vec ℕ Global)). length list == 0) (sym c.as_slice.ensures.value) ∙ sym c.if-is_empty.ensures))) (c.import.ensures _)
+    came_at _ _ plan _ _ _ (with_certificates plan c.args.channel.now c.args.identity (some_there c.args.plan.now.certificates.items (ap (λ (list : List (Vec ℕ Global)). length list == 0) (sym c.as_slice.ensures.value) ∙ sym c.if-is_empty.ensures))) (c.import.ensures _)

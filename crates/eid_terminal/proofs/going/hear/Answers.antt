@@ -11,5 +11,5 @@ use Rattle.eid_terminal.proofs.going.hear.Goals as goal
 pub returns-in-Request : goal.returns-in-Request
 returns-in-Request g c =
     let plan = plan_view c.args.plan.now in
-    came_at _ _ plan _ _ _ (ap (λ (x : Awaited). later_of plan x c.args.channel (plain_reply c.args.reply.now)) c.in-Request.is)
-    (came_calm _ plan _ _ (calm_after_request plan c.in-Request.command c.args.channel (plain_reply c.args.reply.now)) c.hear-in-Request.ensures)
+    came_at _ _ plan _ _ _ (ap (λ (x : Awaited). later_of plan x c.args.channel.now (plain_reply c.args.reply.now)) c.in-Request.is)
+    (came_calm _ plan _ _ (calm_after_request plan c.in-Request.command c.args.channel.now (plain_reply c.args.reply.now)) c.hear-in-Request.ensures)

@@ -13,12 +13,12 @@ pub returns-then-not-receive : goal.returns-then-not-receive
 returns-then-not-receive g c = record {
   reading = None;
   reads = c.if-not-receive.ensures.reads;
-  comes = came_now _ (plan_view c.args.plan.now) _ _ _ (ap (λ (step : Step). Stops step 0) (sym c.step_of.ensures)) refl (c.stopped.ensures (plan_view c.args.plan.now) _ _);
+  comes = came_now _ (plan_view c.args.plan.now) _ _ _ (ap (λ (step : Step). Stops step 0) (sym c.step_of.ensures)) refl (c.stopped.ensures (plan_view c.args.plan.now) _ _ _);
 }
 
 pub returns : goal.returns
 returns g c = record {
   reading = Some (plain_reply c.receive.new.reply);
   reads = c.if-not-receive.ensures.reads;
-  comes = came_at _ _ (plan_view c.args.plan.now) _ _ _ (ap (λ (channel : Option ChannelState). later_of (plan_view c.args.plan.now) c.args.waiting.awaited channel (plain_reply c.receive.new.reply)) (sym (c.if-not-receive.ensures.counted refl))) c.hear.ensures;
+  comes = came_at _ _ (plan_view c.args.plan.now) _ _ _ (ap (λ (channel : Option ChannelState). later_of (plan_view c.args.plan.now) c.args.awaited channel (plain_reply c.receive.new.reply)) (sym (c.if-not-receive.ensures.counted refl))) c.hear.ensures;
 }

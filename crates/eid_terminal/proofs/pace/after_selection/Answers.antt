@@ -6,7 +6,7 @@ use Rattle.eid_terminal.proofs.PaceSteps.{not_selected, selected}
 use Rattle.eid_terminal.proofs.pace.after_selection.Goals as goal
 
 pub returns-then-not-is_pace_selected : goal.returns-then-not-is_pace_selected
-returns-then-not-is_pace_selected c plan heard = did_at plan _ _ _ (not_selected _ _ _ _ (sym c.if-not-is_pace_selected.ensures)) (c.stopped.ensures plan _ _)
+returns-then-not-is_pace_selected c plan heard = did_at plan _ _ _ (not_selected _ _ _ _ (sym c.if-not-is_pace_selected.ensures)) (c.stopped.ensures plan _ _ _)
 
 pub returns : goal.returns
 returns c plan heard =

@@ -6,7 +6,7 @@ use Rattle.eid_terminal.proofs.PaceSteps.{base_drawn, exchanged}
 use Rattle.eid_terminal.proofs.pace.send_ephemeral.Goals as goal
 
 pub returns-in_default : goal.returns-in_default
-returns-in_default g c plan heard = came_fault _ _ plan _ _ _ _ _ (base_drawn _ _ _) refl c.in_default.ensures (c.failed.ensures plan _ _)
+returns-in_default g c plan heard = came_fault _ _ plan _ _ _ _ _ (base_drawn _ _ _) refl c.in_default.ensures (c.failed.ensures plan _ _ _)
 
 pub returns : goal.returns
 returns g c plan heard =

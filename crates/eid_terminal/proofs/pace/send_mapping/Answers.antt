@@ -6,7 +6,7 @@ use Rattle.eid_terminal.proofs.PaceSteps.{exchanged, map_drawn}
 use Rattle.eid_terminal.proofs.pace.send_mapping.Goals as goal
 
 pub returns-in_default : goal.returns-in_default
-returns-in_default g c plan heard = came_fault _ _ plan _ _ _ _ _ (map_drawn _ _ _) refl c.in_default.ensures (c.failed.ensures plan _ _)
+returns-in_default g c plan heard = came_fault _ _ plan _ _ _ _ _ (map_drawn _ _ _) refl c.in_default.ensures (c.failed.ensures plan _ _ _)
 
 pub returns : goal.returns
 returns g c plan heard =

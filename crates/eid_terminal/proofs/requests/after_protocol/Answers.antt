@@ -11,7 +11,7 @@ use Rattle.eid_terminal.proofs.RequestSteps.{protocol_refused, protocol_selected
 use Rattle.eid_terminal.proofs.requests.after_protocol.Goals as goal
 
 pub returns-then-not-is_success : goal.returns-then-not-is_success
-returns-then-not-is_success c = did_at (plan_view c.args.plan.now) _ _ _ (protocol_refused _ _ _ _ _ _ (sym c.if-not-is_success.ensures)) (c.give.ensures (plan_view c.args.plan.now) _ _)
+returns-then-not-is_success c = did_at (plan_view c.args.plan.now) _ _ _ (protocol_refused _ _ _ _ _ _ (sym c.if-not-is_success.ensures)) (c.give.ensures (plan_view c.args.plan.now) _ _ _)
 
 pub returns : goal.returns
 returns c =

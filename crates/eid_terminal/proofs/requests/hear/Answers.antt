@@ -9,4 +9,4 @@ use Rattle.eid_terminal.proofs.requests.hear.Goals as goal
 
 pub returns-in-Sector : goal.returns-in-Sector
 returns-in-Sector c =
-    did_at _ _ _ _ (ap (λ (x : RequestCommand). after_request (plan_view c.args.plan.now) x c.args.channel (plain_reply c.args.reply.now)) c.in-Sector.is) (c.after_identifier.ensures _)
+    did_at _ _ _ _ (ap (λ (x : RequestCommand). after_request (plan_view c.args.plan.now) x c.args.channel.now (plain_reply c.args.reply.now)) c.in-Sector.is) (c.after_identifier.ensures _ _)

@@ -4,7 +4,7 @@ use Rattle.std.proofs.Math.Logic.{∥∥₁_elim}
 use Rattle.eid_terminal.specs.Plans.{plan_view}
 use Rattle.eid_terminal.specs.View.{IsSound}
 use Rattle.eid_terminal.proofs.Props.{IsFit-prop, IsSound-prop}
-use Rattle.eid_terminal.proofs.terminal.Terminal.next.Goals as goal
+use Rattle.eid_terminal.proofs.terminal.Terminal.next_in.Goals as goal
 
 pub take_turn-turn-requires-clause-fit : goal.take_turn-turn-requires-clause-fit
 take_turn-turn-requires-clause-fit g c = ∥∥₁_elim c.args.self.now.fit (IsFit-prop (plan_view c.args.self.now.plan)) (λ fit. fit)
