@@ -22,16 +22,16 @@ use Rattle.eid_model.specs.Legal.{silent}
 use Rattle.eid_model.specs.Moments.{Event, PoweredOn, PoweredOff, Received, PlainMoment}
 use Rattle.eid_record.specs.Plain.{FullRecord}
 use Rattle.eid_script.specs.Scripts.{ScriptLine, OnLine, ApduLine}
-use Rattle.eid_terminal.specs.declared.action.Action.{Action}
-use Rattle.eid_terminal.specs.declared.action.Action.TheVariants as actions
+use Rattle.eid_apdu.specs.Answer.{PlainReply}
+use Rattle.eid_terminal.specs.declared.action.Deed.{Deed}
+use Rattle.eid_terminal.specs.declared.action.Deed.TheVariants as deeds
 use Rattle.eid_terminal.specs.declared.plan.Request.{Request}
-use Rattle.arrayvec.specs.ArrayVec.{ArrayVec}
 use Rattle.eid_terminal.specs.Courses.{Course, Asks, Sends, Passes, Gives, Stops, Faults, Ends, Reached, SendsBytes, sent}
 use Rattle.eid_terminal.specs.Moves.{Move, move_of}
 use Rattle.eid_terminal.specs.Moves as moves
 use Rattle.eid_terminal.specs.Plans.{IsFit, PlainPlan}
 use Rattle.eid_terminal.specs.Replies.{success}
-use Rattle.eid_terminal.specs.Terminals.{Goes, TerminalView, begun, course, left_at, move_seen}
+use Rattle.eid_terminal.specs.Terminals.{Goes, TerminalView, begun, course, left_at, move_made}
 use Rattle.eid_terminal.proofs.Within.{at_most}
 use Rattle.eid_run.specs.Conversations.{Exchange, IsEnd, Talks, Told, Passed, Result, command_of, reply_of, IsDue}
 use Rattle.eid_step.specs.Effects.{Did, LineEffect, line_for}
@@ -61,13 +61,13 @@ received_reply (PoweredOn found) bytes reply e = absurd (cc)
 received_reply PoweredOff bytes reply e = absurd (cc)
 received_reply (Received command) bytes reply e = refl
 
-never_asks : (action : Action) (question : Question) → move_seen action ≡ moves.Asks question → ⊥
-never_asks (actions.Send message) question e = cc
-never_asks (actions.Result request reply) question e = cc
-never_asks (actions.Passed step) question e = cc
-never_asks actions.Done question e = cc
-never_asks (actions.Stopped step status) question e = cc
-never_asks (actions.Fault step) question e = cc
+never_asks : (deed : Deed) (message : List ℕ) (heard : PlainReply) (question : Question) → move_made deed message heard ≡ moves.Asks question → ⊥
+never_asks deeds.Send message heard question e = cc
+never_asks (deeds.Result request) message heard question e = cc
+never_asks (deeds.Passed step) message heard question e = cc
+never_asks deeds.Done message heard question e = cc
+never_asks (deeds.Stopped step status) message heard question e = cc
+never_asks (deeds.Fault step) message heard question e = cc
 
 -- ---- the parts of a session so far
 
@@ -76,9 +76,9 @@ record Turned (plan : PlainPlan) (asks : List Ask) (exchanges : List Exchange) (
   talks : Talks (course plan) asks exchanges told at
   logged : log_now ≡ first_log ++ asks
 
-turned : (plan : PlainPlan) (opening : FullRecord) (start : Scene) (first old new : Standing) (taken : ℕ) (so : IsTalkSoFar plan opening start first old taken) (asked : CoproSeen) (action : Action) → asked.log ≡ old.copro.log → (goes : Goes asked new.copro old.terminal new.terminal old.due (move_seen action))
+turned : (plan : PlainPlan) (opening : FullRecord) (start : Scene) (first old new : Standing) (taken : ℕ) (so : IsTalkSoFar plan opening start first old taken) (asked : CoproSeen) (move : Move) → asked.log ≡ old.copro.log → (goes : Goes asked new.copro old.terminal new.terminal old.due move)
     → Turned plan (so.asks ++ goes.asks) (so.exchanges ++ option_to_list so.pending) so.told first.copro.log new.copro.log goes.at
-turned plan opening start first old new taken so asked action room goes =
+turned plan opening start first old new taken so asked move room goes =
     let reached : Reached old.terminal.course goes.asks (option_to_list (option_map reply_of so.pending)) 0 goes.at =
     subst (λ (d : Option (List ℕ)). Reached old.terminal.course goes.asks (option_to_list d) 0 goes.at) so.due_is goes.reached in
     let turn = talks_turn old.terminal.course goes.at goes.asks so.pending so.sends reached in
@@ -172,9 +172,9 @@ talk_more plan opening start first old new taken so alive tells did = by did.goe
   exchanges = so.exchanges ++ option_to_list so.pending
 
   all : Turned plan asks exchanges so.told first.copro.log new.copro.log did.goes.at
-  all = turned plan opening start first old new taken so did.asked did.action did.room did.goes
+  all = turned plan opening start first old new taken so did.asked (move_made did.deed did.message did.heard) did.room did.goes
 
-  count_at : (at : Course) → move_seen did.action ≡ move_of at → new.tally ≡ tally_more old.tally (move_of at)
+  count_at : (at : Course) → move_made did.deed did.message did.heard ≡ move_of at → new.tally ≡ tally_more old.tally (move_of at)
   count_at at is = did.counted ∙ ap (tally_more old.tally) is
 
   tally_as : new.tally ≡ old.tally → IsTallyOf so.told new.tally
@@ -183,7 +183,7 @@ talk_more plan opening start first old new taken so alive tells did = by did.goe
   taken_is : taken ≡ turns so.exchanges so.pending so.told
   taken_is = so.counted alive
 
-  wrote : (line more : List ℕ) → turn_line plan.requests (move_seen did.action) ≡ line → more ≡ told_lines plan so.told ++ line → IsTrue first.sink.tells → Grew first.sink.written new.sink.written more
+  wrote : (line more : List ℕ) → turn_line plan.requests (move_made did.deed did.message did.heard) ≡ line → more ≡ told_lines plan so.told ++ line → IsTrue first.sink.tells → Grew first.sink.written new.sink.written more
   wrote line more is so_is telling =
       let earlier : old.sink.written ≡ first.sink.written ++ (told_lines plan so.told ++ []) =
       so.written telling ∙ ap (λ (b : Bool). first.sink.written ++ (told_lines plan so.told ++ (if b then stop_line old.terminal.course else []))) alive in
@@ -213,7 +213,7 @@ talk_more plan opening start first old new taken so alive tells did = by did.goe
       }
 
   told_one : (t : Told) (at later : Course) → new.terminal ≡ left_at at → left_at at ≡ record { course = later; waits = false; ended = false } → Talks (course plan) asks exchanges so.told at → Talks at [] [] (t ∷ []) later
-      → turn_line plan.requests (move_seen did.action) ≡ told_line plan t → new.tally ≡ tally_told old.tally t → IsLeftAlone old.scene new.scene old.log new.log × (new.due ≡ None) → IsTalkSoFar plan opening start first new (suc taken)
+      → turn_line plan.requests (move_made did.deed did.message did.heard) ≡ told_line plan t → new.tally ≡ tally_told old.tally t → IsLeftAlone old.scene new.scene old.log new.log × (new.due ≡ None) → IsTalkSoFar plan opening start first new (suc taken)
   told_one t at later left is talks step line count alone =
       let more = talks_on (course plan) at later asks [] exchanges [] so.told (t ∷ []) talks step in
       let here_now : Talks (course plan) asks exchanges (so.told ++ t ∷ []) later =
@@ -221,13 +221,13 @@ talk_more plan opening start first old new taken so alive tells did = by did.goe
       quiet (so.told ++ t ∷ []) (record { course = later; waits = false; ended = false }) (left ∙ is) here_now refl alone
       (subst (λ (y : Tally). IsTallyOf (so.told ++ t ∷ []) y) (sym count) (tally_on so.told t old.tally so.tallied)) (wrote (told_line plan t) (told_lines plan (so.told ++ t ∷ []) ++ []) line (told_so plan so.told t)) (λ e. ap suc taken_is ∙ sym (one_longer so.exchanges so.pending so.told t)) (λ e. absurd (cc))
 
-  ended_so : (at : Course) → new.terminal ≡ record { course = at; waits = false; ended = true } → Talks (course plan) asks exchanges so.told at → turn_line plan.requests (move_seen did.action) ≡ stop_line at
+  ended_so : (at : Course) → new.terminal ≡ record { course = at; waits = false; ended = true } → Talks (course plan) asks exchanges so.told at → turn_line plan.requests (move_made did.deed did.message did.heard) ≡ stop_line at
       → new.tally ≡ old.tally → IsLeftAlone old.scene new.scene old.log new.log × (new.due ≡ None) → IsEnd at → IsTalkSoFar plan opening start first new (suc taken)
   ended_so at left talks line count alone end =
       quiet so.told (record { course = at; waits = false; ended = true }) left talks refl alone (tally_as count) (wrote (stop_line at) (told_lines plan so.told ++ stop_line at) line refl) (λ e. absurd (cc)) (λ e. end)
 
-  by : (at : Course) → move_seen did.action ≡ move_of at → SendsBytes at → new.terminal ≡ left_at at → Talks (course plan) asks exchanges so.told at → ChipDid old.scene new.scene old.log new.log new.due (move_of at) → IsTalkSoFar plan opening start first new (suc taken)
-  by (Asks question later) is octets left talks chip = absurd (never_asks did.action question is)
+  by : (at : Course) → move_made did.deed did.message did.heard ≡ move_of at → SendsBytes at → new.terminal ≡ left_at at → Talks (course plan) asks exchanges so.told at → ChipDid old.scene new.scene old.log new.log new.due (move_of at) → IsTalkSoFar plan opening start first new (suc taken)
+  by (Asks question later) is octets left talks chip = absurd (never_asks did.deed did.message did.heard question is)
   by (Sends channel command later) is octets left talks chip =
       let e : Exchange = record { command = sent channel command; reply = replied chip.moment } in
       let ran = run_one opening start old.scene new.scene first.log old.log new.log exchanges e chip.moment so.run so.replies chip.made chip.keeps refl chip.sendable in
@@ -415,9 +415,9 @@ talk_broke plan opening chip chip_was chip_now old was new terminal terminal_was
 
     all : Turned plan asks exchanges so.told terminal.log terminal_now.log p.goes.at
     all = turned plan opening start (standing start old.copro.log terminal first_terminal first_due old.sink no_results) (standing (scene chip_was was.device was.cells) was.copro.log terminal_was was_at was_due was.sink was_tally)
-        (standing (scene chip_now new.device new.cells) new.copro.log terminal_now now_at now_due new.sink now_tally) taken so p.asked p.action p.room p.goes
+        (standing (scene chip_now new.device new.cells) new.copro.log terminal_now now_at now_due new.sink now_tally) taken so p.asked (move_made p.deed p.message p.heard) p.room p.goes
 
-    part_of : (told : List Told) (at : Course) (line tail : List ℕ) → Talks (course plan) asks exchanges told at → turn_line plan.requests (move_seen p.action) ≡ line → report plan told at ≡ (told_lines plan so.told ++ line) ++ tail → DidPartOfSession plan opening old new terminal terminal_now
+    part_of : (told : List Told) (at : Course) (line tail : List ℕ) → Talks (course plan) asks exchanges told at → turn_line plan.requests (move_made p.deed p.message p.heard) ≡ line → report plan told at ≡ (told_lines plan so.told ++ line) ++ tail → DidPartOfSession plan opening old new terminal terminal_now
     part_of told at line tail talks is whole =
         let ran = alone_run exchanges p.chip so.run so.replies in
         record {
@@ -428,18 +428,18 @@ talk_broke plan opening chip chip_was chip_now old was new terminal terminal_was
               (subst (λ (l : List ℕ). GrewByPart was.sink.written new.sink.written l) is (p.written (tells ∙ telling))) whole;
         }
 
-    told_one : (t : Told) (at later : Course) → Talks (course plan) asks exchanges so.told at → Talks at [] [] (t ∷ []) later → turn_line plan.requests (move_seen p.action) ≡ told_line plan t → DidPartOfSession plan opening old new terminal terminal_now
+    told_one : (t : Told) (at later : Course) → Talks (course plan) asks exchanges so.told at → Talks at [] [] (t ∷ []) later → turn_line plan.requests (move_made p.deed p.message p.heard) ≡ told_line plan t → DidPartOfSession plan opening old new terminal terminal_now
     told_one t at later talks step line =
         let more = talks_on (course plan) at later asks [] exchanges [] so.told (t ∷ []) talks step in
         let here_now : Talks (course plan) asks exchanges (so.told ++ t ∷ []) later =
         subst (λ (a : List Ask). Talks (course plan) a exchanges (so.told ++ t ∷ []) later) (append-nil asks) (subst (λ (es : List Exchange). Talks (course plan) (asks ++ []) es (so.told ++ t ∷ []) later) (append-nil exchanges) more) in
         part_of (so.told ++ t ∷ []) later (told_line plan t) (stop_line later) here_now line (ap (λ (l : List ℕ). l ++ stop_line later) (told_more plan so.told t))
 
-    stopped : (at : Course) → Talks (course plan) asks exchanges so.told at → turn_line plan.requests (move_seen p.action) ≡ stop_line at → DidPartOfSession plan opening old new terminal terminal_now
+    stopped : (at : Course) → Talks (course plan) asks exchanges so.told at → turn_line plan.requests (move_made p.deed p.message p.heard) ≡ stop_line at → DidPartOfSession plan opening old new terminal terminal_now
     stopped at talks line = part_of so.told at (stop_line at) [] talks line (sym (append-nil (told_lines plan so.told ++ stop_line at)))
 
-    at_move : (at : Course) → move_seen p.action ≡ move_of at → Talks (course plan) asks exchanges so.told at → DidPartOfSession plan opening old new terminal terminal_now
-    at_move (Asks question later) is talks = absurd (never_asks p.action question is)
+    at_move : (at : Course) → move_made p.deed p.message p.heard ≡ move_of at → Talks (course plan) asks exchanges so.told at → DidPartOfSession plan opening old new terminal terminal_now
+    at_move (Asks question later) is talks = absurd (never_asks p.deed p.message p.heard question is)
     at_move (Sends channel command later) is talks = stopped (Sends channel command later) talks (ap (turn_line plan.requests) is)
     at_move (Passes step later) is talks = told_one (Passed step) (Passes step later) later talks (refl, here later) (ap (turn_line plan.requests) is)
     at_move (Gives place reply later) is talks = told_one (Result place reply) (Gives place reply later) later talks (refl, here later) (ap (turn_line plan.requests) is)
@@ -506,9 +506,18 @@ too_many plan opening start first now taken fit so alive many =
     absurd (omega (arith, few, count, same, all, one, many))
 
 -- a command is told by no line
-pub untold_part : (list : List Request) (action : Action) (bytes : ArrayVec ℕ) (written : List ℕ) → action ≡ actions.Send bytes → GrewByPart written written (turn_line list (move_seen action))
-untold_part list action bytes written is =
-    subst (λ (a : Action). GrewByPart written written (turn_line list (move_seen a))) (sym is) ([], ([], refl), sym (append-nil written))
+pub untold_part : (list : List Request) (deed : Deed) (message written : List ℕ) (heard : PlainReply) → deed ≡ deeds.Send → GrewByPart written written (turn_line list (move_made deed message heard))
+untold_part list deed message written heard is =
+    subst (λ (d : Deed). GrewByPart written written (turn_line list (move_made d message heard))) (sym is) ([], ([], refl), sym (append-nil written))
+
+-- the chip is left alone where no command was sent
+pub left_alone : (scene : Scene) (log : List Ask) (deed : Deed) (message : List ℕ) (heard : PlainReply) → (deed ≡ deeds.Send → ⊥) → ChipDid scene scene log log None (move_made deed message heard)
+left_alone scene log deeds.Send message heard other = absurd (other refl)
+left_alone scene log (deeds.Result request) message heard other = ((refl, refl), refl)
+left_alone scene log (deeds.Passed step) message heard other = ((refl, refl), refl)
+left_alone scene log deeds.Done message heard other = ((refl, refl), refl)
+left_alone scene log (deeds.Stopped step status) message heard other = ((refl, refl), refl)
+left_alone scene log (deeds.Fault step) message heard other = ((refl, refl), refl)
 
 pub some_mapped : (pending : Option Exchange) (due : Option (List ℕ)) → due ≡ option_map reply_of pending → is_some due ≡ is_some pending
 some_mapped None due is = ap is_some is

@@ -10,11 +10,12 @@ use Rattle.eid_copro.specs.Told.{AnswersFrom, KeepsTo, Source}
 use Rattle.eid_copro.specs.Told as told
 use Rattle.eid_copro.specs.declared.ask.Ask.{Ask}
 use Rattle.eid_script.specs.Scripts.{ApduLine}
-use Rattle.eid_terminal.specs.declared.action.Action.{Action}
+use Rattle.eid_apdu.specs.Answer.{PlainReply}
+use Rattle.eid_terminal.specs.declared.action.Deed.{Deed}
 use Rattle.eid_terminal.specs.declared.plan.Request.{Request}
 use Rattle.eid_terminal.specs.Moves.{Move}
 use Rattle.eid_terminal.specs.Moves as moves
-use Rattle.eid_terminal.specs.Terminals.{Goes, TerminalView, move_seen}
+use Rattle.eid_terminal.specs.Terminals.{Goes, TerminalView, move_made}
 use Rattle.eid_step.specs.Effects.{Did}
 use Rattle.eid_step.specs.Lines.{IsLine, Keeps}
 use Rattle.eid_step.specs.Sendable.{AnswersWell}
@@ -102,20 +103,24 @@ stands_at c device cells log copro sink =
 pub record DidTurn (requests : List Request) (old new : Standing) : Type 0 where
   pub asked : CoproSeen
   pub room : asked.log ≡ old.copro.log
-  pub action : Action
-  pub goes : Goes asked new.copro old.terminal new.terminal old.due (move_seen action)
-  pub chip : ChipDid old.scene new.scene old.log new.log new.due (move_seen action)
-  pub written : IsTrue old.sink.tells → Grew old.sink.written new.sink.written (turn_line requests (move_seen action))
-  pub counted : new.tally ≡ tally_more old.tally (move_seen action)
+  pub deed : Deed
+  pub message : List ℕ
+  pub heard : PlainReply
+  pub goes : Goes asked new.copro old.terminal new.terminal old.due (move_made deed message heard)
+  pub chip : ChipDid old.scene new.scene old.log new.log new.due (move_made deed message heard)
+  pub written : IsTrue old.sink.tells → Grew old.sink.written new.sink.written (turn_line requests (move_made deed message heard))
+  pub counted : new.tally ≡ tally_more old.tally (move_made deed message heard)
 
 -- the turn broke off: it was not taken, or it was not told whole, or the chip had no room for a command's questions
 pub record PartOfTurn (requests : List Request) (old new : Standing) : Type 0 where
   pub asked : CoproSeen
   pub room : asked.log ≡ old.copro.log
-  pub action : Action
-  pub goes : Goes asked new.copro old.terminal new.terminal old.due (move_seen action)
+  pub deed : Deed
+  pub message : List ℕ
+  pub heard : PlainReply
+  pub goes : Goes asked new.copro old.terminal new.terminal old.due (move_made deed message heard)
   pub chip : IsLeftAlone old.scene new.scene old.log new.log
-  pub written : IsTrue old.sink.tells → GrewByPart old.sink.written new.sink.written (turn_line requests (move_seen action))
+  pub written : IsTrue old.sink.tells → GrewByPart old.sink.written new.sink.written (turn_line requests (move_made deed message heard))
 
 pub record NoTurn (old new : Standing) : Type 0 where
   pub log : new.copro.log ≡ old.copro.log

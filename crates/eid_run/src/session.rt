@@ -1,5 +1,6 @@
 //! A session: a terminal and a chip together.
-ghost use Rattle.std.specs.Prelude.{◌≡◌, ◌+◌, ◌<◌, ◌≤◌, ◌^◌, false, Some, is_some, IsSome, IsTrue, IfOk, OnOk, OnErr, slice_index};
+ghost use Rattle.std.specs.Prelude.{◌≡◌, ◌+◌, ◌<◌, ◌≤◌, ◌^◌, false, Some, is_some, IsSome, IsTrue, IfOk, OnOk, OnErr, slice_index, ℕ, List};
+ghost use Rattle.eid_apdu.specs.Answer.{plain_reply};
 ghost use Rattle.std.specs.Option.{option_copied};
 ghost use Rattle.eid_base.specs.Seen.{Grew, GrewByPart};
 ghost use Rattle.eid_chip.specs.Fits.{IsSound, came_in, scene};
@@ -7,7 +8,7 @@ ghost use Rattle.eid_script.specs.Scripts.{ApduLine};
 ghost use Rattle.eid_terminal.specs.Seen.{terminal_view};
 ghost use Rattle.eid_step.specs.Lines.{Keeps};
 ghost use Rattle.eid_chip.specs.declared.exchange.Exchange.{Exchange as ExchangeSeen};
-ghost use Rattle.eid_terminal.specs.Terminals.{move_seen};
+ghost use Rattle.eid_terminal.specs.Terminals.{move_made};
 ghost use Rattle.eid_run.specs.Talk.{BrokeTurn, ChipReplied, DidTurn, IsLeftAlone, due_bytes, sent_back, stands_at, turn_line};
 ghost use Rattle.eid_record.specs.Plain.{FullRecord};
 ghost use Rattle.eid_store.specs.Stands.{stands};
@@ -19,13 +20,15 @@ ghost use Rattle.eid_run.specs.Tallies.{CountedSession};
 
 use crate::report::{put_asked, put_failed, put_passed, put_stopped};
 use crate::tally::Tally;
-use eid_base::{NoMemory, RunError, Sink};
+use arrayvec::ArrayVec;
+use eid_apdu::Reply;
+use eid_base::{NoMemory, RunError, Sink, Status};
 use eid_cells::Eeprom;
 use eid_chip::HandledIn;
 use eid_copro::Coprocessor;
 use eid_model::Text;
 use eid_step::{Stepper, print};
-use eid_terminal::{Action, MAX_TURNS, Plan, Request, Terminal};
+use eid_terminal::{Deed, MAX_TURNS, Message, Plan, Request, Terminal};
 use std::alloc::Global;
 
 /// How many questions a turn of the terminal can put.
@@ -67,39 +70,45 @@ fn due_of(came: HandledIn) -> Due
     }
 }
 
-/// Makes the text the line by which an action is told, empty where it is not.
-fn put_line(text: &mut Text, requests: &[Request], action: &Action) -> Result<(), NoMemory>
-    ensures { OnOk result (text.new ≡ turn_line requests.now (move_seen action.now)) }
+/// Makes the text the line by which a deed is told, empty where it is not.
+fn put_line(
+    text: &mut Text,
+    requests: &[Request],
+    deed: Deed,
+    heard: &Reply,
+) -> Result<(), NoMemory>
+    ensures { (message : List ℕ) → OnOk result (text.new ≡ turn_line requests.now (move_made deed message (plain_reply heard.now))) }
 {
     text.clear();
-    match action {
-        Action::Send(_) => Ok(()),
-        Action::Result { request, reply } => {
-            put_asked(text, requests.get(usize::from(*request)).copied(), reply)
+    match deed {
+        Deed::Send => Ok(()),
+        Deed::Result { request } => {
+            put_asked(text, requests.get(usize::from(request)).copied(), heard)
         }
-        Action::Passed { step } => put_passed(text, *step),
-        Action::Done => Ok(()),
-        Action::Stopped { step, status } => put_stopped(text, *step, *status),
-        Action::Fault { step } => put_failed(text, *step),
+        Deed::Passed { step } => put_passed(text, step),
+        Deed::Done => Ok(()),
+        Deed::Stopped { step, status } => put_stopped(text, step, status),
+        Deed::Fault { step } => put_failed(text, step),
     }
 }
 
-/// Tells an action, on a line of the report if it has one.
+/// Tells a deed, on a line of the report if it has one.
 fn tell<K: Sink>(
     requests: &[Request],
-    action: &Action,
+    deed: Deed,
+    heard: &Reply,
     text: &mut Text,
     out: &mut K,
 ) -> Result<(), RunError>
-    ensures whole { OnOk result (IsTrue (K.seen out.old).tells
-        → Grew (K.seen out.old).written (K.seen out.new).written (turn_line requests.now (move_seen action.now))) }
-    ensures part { OnErr result (IsTrue (K.seen out.old).tells
-        → GrewByPart (K.seen out.old).written (K.seen out.new).written (turn_line requests.now (move_seen action.now))) }
+    ensures whole { (message : List ℕ) → OnOk result (IsTrue (K.seen out.old).tells
+        → Grew (K.seen out.old).written (K.seen out.new).written (turn_line requests.now (move_made deed message (plain_reply heard.now)))) }
+    ensures part { (message : List ℕ) → OnErr result (IsTrue (K.seen out.old).tells
+        → GrewByPart (K.seen out.old).written (K.seen out.new).written (turn_line requests.now (move_made deed message (plain_reply heard.now)))) }
     ensures sink { TellsFault (K.seen out.old) (K.seen out.new) result }
 {
-    if put_line(text, requests, action).is_err() {
+    let Ok(()) = put_line(text, requests, deed, heard) else {
         return Err(RunError::NoMemory);
-    }
+    };
     if text.as_bytes().is_empty() {
         return Ok(());
     }
@@ -129,14 +138,16 @@ fn answer<E: Eeprom, C: Coprocessor>(
     }
 }
 
-/// A terminal and a chip that talk: the chip, the terminal, the reply that is due, the requests of the plan, the text of the
-/// line that is told, and the results so far.
+/// A terminal and a chip that talk: the chip, the terminal, the reply that is due, the requests of the plan, the buffers of the
+/// last command and of the last reply, the text of the line that is told, and the results so far.
 #[derive(Drop)]
 struct Conversation {
     stepper: Stepper,
     terminal: Terminal,
     due: Due,
     requests: Vec<Request>,
+    message: Message,
+    heard: Reply,
     text: Text,
     tally: Tally,
 }
@@ -174,19 +185,33 @@ impl Conversation {
         if terminal_copro.make_room(QUESTIONS).is_err() {
             return Err(RunError::NoMemory);
         }
-        let action = self
-            .terminal
-            .next(due_reply(self.due, &self.stepper), terminal_copro);
-        if let Action::Send(bytes) = &action {
-            let Ok(replied) = answer(&mut self.stepper, bytes.as_slice(), cells, chip_copro) else {
+        let deed = self.terminal.next_in(
+            due_reply(self.due, &self.stepper),
+            terminal_copro,
+            &mut self.message,
+            &mut self.heard,
+        );
+        if let Deed::Send = deed {
+            let Ok(replied) = answer(
+                &mut self.stepper,
+                self.message.as_slice(),
+                cells,
+                chip_copro,
+            ) else {
                 return Err(RunError::NoMemory);
             };
             self.due = replied;
             return Ok(());
         }
         self.due = Due::Nothing;
-        self.tally.count(&action);
-        tell(self.requests.as_slice(), &action, &mut self.text, out)
+        self.tally.count(deed, &self.heard);
+        tell(
+            self.requests.as_slice(),
+            deed,
+            &self.heard,
+            &mut self.text,
+            out,
+        )
     }
 }
 
@@ -228,6 +253,11 @@ pub fn converse<E: Eeprom, C: Coprocessor, D: Coprocessor, K: Sink>(
         terminal,
         due: Due::Nothing,
         requests,
+        message: ArrayVec::new(),
+        heard: Reply {
+            content: ArrayVec::new(),
+            status: Status(0),
+        },
         text,
         tally,
     };

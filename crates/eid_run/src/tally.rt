@@ -1,10 +1,12 @@
 //! Counting the results of a session.
-ghost use Rattle.std.specs.Prelude.{◌≡◌, ◌+◌, ◌≤◌, ◌<◌, ◌^◌};
-ghost use Rattle.eid_terminal.specs.Terminals.{move_seen};
+ghost use Rattle.std.specs.Prelude.{◌≡◌, ℕ, ◌+◌, ◌≤◌, ◌<◌, ◌^◌, List};
+ghost use Rattle.eid_apdu.specs.Answer.{plain_reply};
+ghost use Rattle.eid_terminal.specs.Terminals.{move_made};
 ghost use Rattle.eid_run.specs.Tallies.{no_results, tally_more};
 
+use eid_apdu::Reply;
 use eid_base::Status;
-use eid_terminal::Action;
+use eid_terminal::Deed;
 
 /// Success.
 const SUCCESS: Status = Status(0x9000);
@@ -29,18 +31,18 @@ impl Tally {
         }
     }
 
-    /// Counts what an action tells: the reply to a request, or nothing.
-    pub fn count(&mut self, action: &Action)
+    /// Counts what a deed tells: the reply that was heard to a request, or nothing.
+    pub fn count(&mut self, deed: Deed, heard: &Reply)
         requires answered { self.old.answered + 1 < 2 ^ 32 }
         requires refused { self.old.refused + 1 < 2 ^ 32 }
-        ensures more { self.new ≡ tally_more self.old (move_seen action.now) }
+        ensures more { (message : List ℕ) → self.new ≡ tally_more self.old (move_made deed message (plain_reply heard.now)) }
         ensures answered { self.new.answered ≤ self.old.answered + 1 }
         ensures refused { self.new.refused ≤ self.old.refused + 1 }
     {
-        let Action::Result { reply, .. } = action else {
+        let Deed::Result { .. } = deed else {
             return;
         };
-        if reply.status == SUCCESS {
+        if heard.status == SUCCESS {
             self.answered += 1;
         } else {
             self.refused += 1;
