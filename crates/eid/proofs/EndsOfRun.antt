@@ -1,6 +1,6 @@
 -- What the run of a script ended in, and what it did: for the commands that read an image and a script,
 -- and then perhaps more.
-use Rattle.std.proofs.Common.{◌≡◌, ℕ, ◌+◌, ◌^◌, ◌<◌, ◌≤◌, IsTrue, List, [], ◌∷◌, ◌++◌, length, length-append, Option, Some, Ok, Err, refl, sym, ap, ◌∙◌, subst, arith}
+use Rattle.std.proofs.Common.{◌≡◌, ℕ, ◌+◌, ◌^◌, ◌<◌, ◌≤◌, IsTrue, List, [], ◌∷◌, ◌++◌, length, length-append, Option, Some, Ok, refl, sym, ap, ◌∙◌, subst, arith}
 use Rattle.std.specs.Prelude.{IsSome}
 use Rattle.eid_base.specs.declared.codes.RunError.{RunError}
 use Rattle.eid_base.specs.declared.codes.RunError.TheVariants as run
@@ -36,7 +36,7 @@ use Rattle.eid.specs.Ends.{IsEndOfRun}
 use Rattle.eid.specs.Works.{Meets}
 use Rattle.eid.proofs.Endings.{Concludes, after_breaking, after_storing}
 use Rattle.eid_inputs.proofs.Reading.{image_of_cells, record_of_cells, record_long, some_of}
-use Rattle.eid.proofs.Refusals.{same_twice, refused, refused_later}
+use Rattle.eid.proofs.Refusals.{same_twice, refused_later}
 
 -- The command reads an image and then a script, and what it ends in where these are good.
 pub record ReadsBoth (c : Command) (image script_name : List ℕ) (files : List ℕ → Option (List ℕ)) (rest : Exit) : Type 0 where
@@ -50,18 +50,8 @@ pub replay_reads : (image script_name answers_name : List ℕ) (files : List ℕ
 unfolding expected
 replay_reads image script_name answers_name files = record { is = refl }
 
-expected_image : (c : Command) (image script_name : List ℕ) (files : List ℕ → Option (List ℕ)) (rest x : Exit) → ReadsBoth c image script_name files rest → image_in (files image) ≡ Err x → expected c files ≡ x
-expected_image c image script_name files rest x reads is = rw is at reads.is
-
-expected_script : (c : Command) (image script_name : List ℕ) (files : List ℕ → Option (List ℕ)) (rest x : Exit) (opening : FullRecord) → ReadsBoth c image script_name files rest → image_in (files image) ≡ Ok opening → script_in (files script_name) ≡ Err x → expected c files ≡ x
-expected_script c image script_name files rest x opening reads stood is = rw (stood, is) at reads.is
-
 expected_rest : (c : Command) (image script_name : List ℕ) (files : List ℕ → Option (List ℕ)) (rest : Exit) (opening : FullRecord) (lines : List ScriptLine) → ReadsBoth c image script_name files rest → image_in (files image) ≡ Ok opening → script_in (files script_name) ≡ Ok lines → expected c files ≡ rest
 expected_rest c image script_name files rest opening lines reads stood is = rw (stood, is) at reads.is
-
--- the image was refused
-pub image_refused : (c : Command) (image script_name : List ℕ) (old new : FolderSeen) (sink : SinkSeen) (rest e : Exit) → ReadsBoth c image script_name old.file rest → SameFiles old new → IsRefused old.tells (image_in (old.file image)) (Rose old.faults new.faults) e → Meets c old new sink sink e
-image_refused c image script_name old new sink rest e reads same refusal = refused c old new sink _ e same refusal (λ x is. expected_image c image script_name old.file rest x reads is)
 
 -- an image that was read: cells that stand for a record
 pub record Opened (image : List ℕ) (old middle : FolderSeen) (opening : FullRecord) (cells : List ℕ) : Type 0 where
@@ -96,11 +86,6 @@ read_after image old middle new opening cells o same later = record {
   same = same_twice old middle new o.same same;
   later = omega (arith, o.later, later);
 }
-
--- the script was refused
-pub script_refused : (c : Command) (image script_name : List ℕ) (old middle new : FolderSeen) (sink : SinkSeen) (rest : Exit) (opening : FullRecord) (cells : List ℕ) (e : Exit) → ReadsBoth c image script_name old.file rest → Opened image old middle opening cells → SameFiles middle new → IsRefused middle.tells (script_in (middle.file script_name)) (Rose middle.faults new.faults) e → Meets c old new sink sink e
-script_refused c image script_name old middle new sink rest opening cells e reads o second refusal = refused_later c old middle new sink _ e o.same o.later second refusal
-    (λ x told is. expected_script c image script_name old.file rest x opening reads (o.stood told) (rw (o.same.files told script_name) at is))
 
 -- the answers were refused
 pub answers_refused : (image script_name answers_name : List ℕ) (old middle new : FolderSeen) (sink : SinkSeen) (opening : FullRecord) (cells : List ℕ) (lines : List ScriptLine) (e : Exit) → Opened image old middle opening cells → (IsTrue old.tells → script_in (old.file script_name) ≡ Ok lines) → SameFiles middle new → IsRefused middle.tells (answers_in (middle.file answers_name)) (Rose middle.faults new.faults) e → Meets (Replay image script_name answers_name) old new sink sink e
@@ -192,8 +177,5 @@ replay_ends image script_name answers_name s answers old new before now given li
 }
 
 -- what was read of a folder with the same files
-pub script_back : (old middle : FolderSeen) (name : List ℕ) (lines : List ScriptLine) → SameFiles old middle → (IsTrue middle.tells → script_in (middle.file name) ≡ Ok lines) → IsTrue old.tells → script_in (old.file name) ≡ Ok lines
-script_back old middle name lines same read = λ told. rw (same.files told name) at (read (rw same.tells told))
-
 pub answers_back : (old middle : FolderSeen) (name : List ℕ) (answers : List Answer) → SameFiles old middle → (IsTrue middle.tells → answers_in (middle.file name) ≡ Ok answers) → IsTrue old.tells → answers_in (old.file name) ≡ Ok answers
 answers_back old middle name answers same read = λ told. rw (same.files told name) at (read (rw same.tells told))

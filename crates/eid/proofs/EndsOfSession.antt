@@ -1,5 +1,5 @@
 -- What the session of a terminal with a chip ended in, and what it did.
-use Rattle.std.proofs.Common.{◌≡◌, ℕ, ◌≤◌, IsTrue, List, [], ◌++◌, length, Option, Some, Ok, Err, refl, sym, ap, ◌∙◌, subst}
+use Rattle.std.proofs.Common.{◌≡◌, ℕ, ◌≤◌, IsTrue, List, [], ◌++◌, length, Option, Some, Ok, refl, ap, ◌∙◌, subst}
 use Rattle.eid_base.specs.declared.codes.RunError.{RunError}
 use Rattle.eid_base.specs.declared.codes.RunError.TheVariants as run
 use Rattle.eid_base.specs.Faults.{Rose}
@@ -28,40 +28,20 @@ use Rattle.eid.specs.Ends.{IsEndOfSession}
 use Rattle.eid_inputs.specs.Storing.{IsStored}
 use Rattle.eid_inputs.specs.Exits.{exit_broken}
 use Rattle.eid_inputs.specs.Inputs.{image_in, plan_in}
-use Rattle.eid.specs.Expected.{expected}
-use Rattle.eid_inputs.specs.Loads.{IsRefused}
+use Rattle.eid.specs.Expected.{expected, unless_refused}
 use Rattle.eid.specs.Session.{IsMeeting, SessionBrokeOff, SessionFinished, SessionNotStored}
 use Rattle.eid.specs.Works.{Meets}
 use Rattle.eid.proofs.Endings.{after_breaking, after_storing, meets_by_end}
-use Rattle.eid.proofs.EndsOfRun.{Opened}
 use Rattle.eid_inputs.proofs.Reading.{record_long}
-use Rattle.eid.proofs.Refusals.{refused, refused_later}
 
--- the exits of inputs that are refused
-expected_image : (image terminal : List ℕ) (start : ℕ) (files : List ℕ → Option (List ℕ)) (x : Exit) → image_in (files image) ≡ Err x → expected (Session image terminal start) files ≡ x
+-- what it ends in, by its inputs
+pub session_reads : (image terminal : List ℕ) (start : ℕ) (files : List ℕ → Option (List ℕ)) → expected (Session image terminal start) files ≡ unless_refused (image_in (files image)) (unless_refused (plan_in (files terminal)) Done)
 unfolding expected
-expected_image image terminal start files x is = rw is refl
-
-expected_plan : (image terminal : List ℕ) (start : ℕ) (files : List ℕ → Option (List ℕ)) (x : Exit) (opening : FullRecord) → image_in (files image) ≡ Ok opening → plan_in (files terminal) ≡ Err x → expected (Session image terminal start) files ≡ x
-unfolding expected
-expected_plan image terminal start files x opening stood is = rw (stood, is) refl
+session_reads image terminal start files = refl
 
 expected_done : (image terminal : List ℕ) (start : ℕ) (files : List ℕ → Option (List ℕ)) (opening : FullRecord) (plan : PlainPlan) → image_in (files image) ≡ Ok opening → plan_in (files terminal) ≡ Ok plan → expected (Session image terminal start) files ≡ Done
 unfolding expected
 expected_done image terminal start files opening plan stood is = rw (stood, is) refl
-
--- the image was refused
-pub image_refused : (image terminal : List ℕ) (start : ℕ) (old new : FolderSeen) (sink : SinkSeen) (e : Exit) → SameFiles old new → IsRefused old.tells (image_in (old.file image)) (Rose old.faults new.faults) e → Meets (Session image terminal start) old new sink sink e
-image_refused image terminal start old new sink e same refusal = refused (Session image terminal start) old new sink _ e same refusal (λ x is. expected_image image terminal start old.file x is)
-
--- the plan was refused
-pub plan_refused : (image terminal : List ℕ) (start : ℕ) (old middle new : FolderSeen) (sink : SinkSeen) (opening : FullRecord) (cells : List ℕ) (e : Exit) → Opened image old middle opening cells → SameFiles middle new → IsRefused middle.tells (plan_in (middle.file terminal)) (Rose middle.faults new.faults) e → Meets (Session image terminal start) old new sink sink e
-plan_refused image terminal start old middle new sink opening cells e o second refusal = refused_later (Session image terminal start) old middle new sink _ e o.same o.later second refusal
-    (λ x told is. expected_plan image terminal start old.file x opening (o.stood told) (rw (o.same.files told terminal) at is))
-
--- what was read of a folder with the same files
-pub plan_back : (old middle : FolderSeen) (name : List ℕ) (plan : PlainPlan) → SameFiles old middle → (IsTrue middle.tells → plan_in (middle.file name) ≡ Ok plan) → IsTrue old.tells → plan_in (old.file name) ≡ Ok plan
-plan_back old middle name plan same read = λ told. rw (same.files told name) at (read (rw same.tells told))
 
 -- ---- the ends
 

@@ -77,7 +77,7 @@ refused_later c old middle new sink input e first later second refusal is = reco
 -- what is good passes on to what comes later
 passed : {A : Type 0} (first : Result A Exit) (later : Exit) → IsOk first → unless_refused first later ≡ later
 passed (Ok value) later good = refl
-passed (Err exit) later good = absurd good
+passed (Err exit) later good = absurd cc
 
 -- the first of two inputs was refused, or the second one
 pub either_refused : {A B : Type 0} (c : Command) (old new : FolderSeen) (sink : SinkSeen) (first : Result A Exit) (second : Result B Exit) (rest e : Exit) → SameFiles old new → IsFirstRefused old.tells first second (Rose old.faults new.faults) e → expected c old.file ≡ unless_refused first (unless_refused second rest) → Meets c old new sink sink e

@@ -1,8 +1,8 @@
 -- Inside: cited by private contracts alone.
 -- How a command that had its inputs ends, and the exits of what failed.
-use Rattle.std.specs.Prelude.{◌≡◌, ◌⊎◌, ℕ, IsTrue, List, Some}
+use Rattle.std.specs.Prelude.{◌⊎◌, ℕ, List}
 use Rattle.eid_base.specs.Faults.{Rose}
-use Rattle.eid_base.specs.Seen.{FolderSeen, SinkSeen, SameOthers, IsLeftBy}
+use Rattle.eid_base.specs.Seen.{FolderSeen, SinkSeen}
 use Rattle.eid_record.specs.Plain.{FullRecord}
 use Rattle.eid_copro.specs.Told.{Source}
 use Rattle.eid_script.specs.Scripts.{ScriptLine}
@@ -11,12 +11,6 @@ use Rattle.eid_inputs.specs.declared.exit.Exit.TheVariants.{Done, Usage, FileFau
 use Rattle.eid.specs.Run.{Setup, RunFinished, RunBrokeOff, RunNotStored}
 use Rattle.eid_run.specs.Meetings.{Meeting}
 use Rattle.eid.specs.Session.{SessionFinished, SessionBrokeOff, SessionNotStored}
-use Rattle.eid_base.specs.declared.codes.RunError.{RunError}
-use Rattle.eid_base.specs.declared.codes.RunError.TheVariants as run
-use Rattle.eid_base.specs.declared.outside.IoError.{IoError}
-use Rattle.eid_perso.specs.declared.config.ConfigError.{ConfigError}
-use Rattle.eid_perso.specs.declared.config.ConfigError.TheVariants as config
-use Rattle.eid_base.specs.declared.outside.IoError.TheVariants as io
 
 abbrev pub setup : FullRecord → List ℕ → List ScriptLine → Setup
 setup opening cells lines = record { opening = opening; cells = cells; lines = lines }
