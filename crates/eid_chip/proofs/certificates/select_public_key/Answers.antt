@@ -20,14 +20,14 @@ use Rattle.eid_chip.proofs.certificates.select_public_key.Goals as goal
 
 pub returns-in_default-signer-clause-told : goal.returns-in_default-signer-clause-told
 returns-in_default-signer-clause-told c = λ full channel fields.
-    let old = state c.args.session channel in
+    let old = state c.args.session.now channel in
     let command = plain_command c.args.c.now in
     let name = c.in-Some.name.now in
     let named : key_name_in c.args.c.now.body.now ≡ Some name = sym c.in-Some.ensures.value in
-    let given = template_so c.args.session.memory.pace c.in-Some-pace.pace c.in-Some-pace.is c.if-is_none.ensures in
+    let given = template_so c.args.session.now.memory.pace c.in-Some-pace.pace c.in-Some-pace.is c.if-is_none.ensures in
     let signer : is_some (signer_of full.fields old.certificates name) ≡ true =
     ap (λ (r : PlainRecord). is_some (signer_of r old.certificates name)) fields ∙ signs_so _ _ c.signer.ensures c.in_default-signer.not-None in
-    let passes = key_passes full old command name named given.0 given.1 (some_after known_view c.args.session.memory.terminal ∙ sym c.if-is_some.ensures) signer in
+    let passes = key_passes full old command name named given.0 given.1 (some_after known_view c.args.session.now.memory.terminal ∙ sym c.if-is_some.ensures) signer in
     let out = c.carried_out.ensures.did in
     let written = rw c.unwrap.ensures at c.try_extend_from_slice.ensures.ok in
     let items : c.try_extend_from_slice.new.self.items ≡ name = written ∙ ap (λ (l : List ℕ). l ++ name) c.new-chosen.ensures in

@@ -16,10 +16,10 @@ use Rattle.eid_chip.proofs.chip_authentication.select_chip_authentication.Goals 
 
 pub returns-in-Ok-clause-told : goal.returns-in-Ok-clause-told
 returns-in-Ok-clause-told c = λ kept channel.
-    let old = state c.args.session channel in
+    let old = state c.args.session.now channel in
     let command = plain_command c.args.c.now in
     let there : old.terminal ≡ Some (known_view c.in-Some.terminal) = ap (option_map known_view) c.in-Some.is in
-    let pace : is_some old.pace ≡ true = some_after memory c.args.session.memory.pace ∙ c.if-is_none.ensures in
+    let pace : is_some old.pace ≡ true = some_after memory c.args.session.now.memory.pace ∙ c.if-is_none.ensures in
     let passes = selection_passes kept old command (sym c.if-not-names_chip_authentication.ensures) pace (rw there refl) c.if-session.false in
     let out = c.carried_out.ensures.did in
     carried SelectChipAuthentication kept old command c.carried_out.result (plain_reply c.carried_out.new.reply) refl passes out.0 out.3 out.1

@@ -14,6 +14,6 @@ pub returns-clause-left : goal.returns-clause-left
 returns-clause-left c = λ channel.
     let is_fresh : ends_session_by c.args.refusal.rule.0 ≡ true → state c.if-ends_session.session None ≡ fresh =
     λ e. elim c.if-ends_session.branch [ then-ends_session w ↦ ap (λ (s : Session). state s None) w.session-is ∙ w.new-session.ensures | else-ends_session w ↦ let t : true ≡ false = cc in absurd (cc) ] in
-    let is_same : ends_session_by c.args.refusal.rule.0 ≡ false → (ch : Option ChannelState) → state c.if-ends_session.session ch ≡ without_run (state c.args.session ch) =
+    let is_same : ends_session_by c.args.refusal.rule.0 ≡ false → (ch : Option ChannelState) → state c.if-ends_session.session ch ≡ without_run (state c.args.session.now ch) =
     λ e ch. elim c.if-ends_session.branch [ then-ends_session w ↦ let t : true ≡ false = cc in absurd (cc) | else-ends_session w ↦ ap (λ (s : Session). state s ch) w.session-is ∙ w.without_run-session.ensures ch ] in
-    left_by (ends_session_by c.args.refusal.rule.0) c.args.session c.if-ends_session.session channel is_fresh is_same
+    left_by (ends_session_by c.args.refusal.rule.0) c.args.session.now c.if-ends_session.session channel is_fresh is_same

@@ -17,8 +17,8 @@ pub returns-clause-told : goal.returns-clause-told
 returns-clause-told c = λ kept channel.
     let few : nat_le (length c.args.c.now.body.now) 16 ≡ true = grind (arith, nat_tests) in
     let same = same_of c.args.c.now.body.now _ application_id c.if-ne.ensures c.as_slice.ensures in
-    let passes = application_passes kept (state c.args.session channel) (plain_command c.args.c.now) (filled _ c.if-is_empty.ensures) few same in
+    let passes = application_passes kept (state c.args.session.now channel) (plain_command c.args.c.now) (filled _ c.if-is_empty.ensures) few same in
     let later = option_map two_messages_later channel in
     let out = c.carried_out.ensures.did in
-    carried SelectApplication kept (state c.args.session channel) (plain_command c.args.c.now) c.carried_out.result (plain_reply c.carried_out.new.reply) refl passes out.0 out.3 out.1
-    (ap (λ (s : Session). state s (option_map two_messages_later channel)) out.2 ∙ idle_state c.idle.result _ later c.idle.ensures.0 c.idle.ensures.1 ∙ application_leaves kept.fields (state c.args.session channel) (plain_command c.args.c.now))
+    carried SelectApplication kept (state c.args.session.now channel) (plain_command c.args.c.now) c.carried_out.result (plain_reply c.carried_out.new.reply) refl passes out.0 out.3 out.1
+    (ap (λ (s : Session). state s (option_map two_messages_later channel)) out.2 ∙ idle_state c.idle.result _ later c.idle.ensures.0 c.idle.ensures.1 ∙ application_leaves kept.fields (state c.args.session.now channel) (plain_command c.args.c.now))

@@ -25,11 +25,11 @@ begin-requires c =
 
 pub returns-in-Ok-begin-clause-told : goal.returns-in-Ok-begin-clause-told
 returns-in-Ok-begin-clause-told c = λ kept channel.
-    let old = state c.args.session channel in
+    let old = state c.args.session.now channel in
     let command = plain_command c.args.c.now in
     let found = formed_so _ (announcement_view c.in-Ok.announcement) c.in-Ok.ensures in
-    let given = template_so c.args.session.memory.pace c.in-Some.pace c.in-Some.is c.if-is_none.ensures in
-    let unknown = some_after known_view c.args.session.memory.terminal ∙ sym c.if-is_some.ensures in
+    let given = template_so c.args.session.now.memory.pace c.in-Some.pace c.in-Some.is c.if-is_none.ensures in
+    let unknown = some_after known_view c.args.session.now.memory.terminal ∙ sym c.if-is_some.ensures in
     let identity = ap (option_map (λ (pace : LastPace). pace.identity)) c.in-Some.is in
     let announced = announced_view c.in-Ok-begin.announced in
     let passes = announcement_passes kept old command (announcement_view c.in-Ok.announcement) announced found given.0 given.1 unknown c.in-Ok-begin.ensures in

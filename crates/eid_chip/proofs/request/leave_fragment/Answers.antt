@@ -4,9 +4,9 @@ use Rattle.eid_apdu.specs.Command.{plain_command}
 use Rattle.eid_model.specs.Runs.{is_piece_of_next}
 use Rattle.eid_chip.specs.States.{next_of}
 use Rattle.eid_chip.specs.Transitions.{state_later}
-use Rattle.eid_chip.proofs.chip.after_fragment.Goals as goal
+use Rattle.eid_chip.proofs.request.leave_fragment.Goals as goal
 
 pub returns-else-is_piece_of_next : goal.returns-else-is_piece_of_next
 returns-else-is_piece_of_next c = λ channel.
-    let none : is_piece_of_next (next_of c.args.session.run) (Some (plain_command c.args.c.now)) ≡ false = sym c.if-is_piece_of_next.ensures in
+    let none : is_piece_of_next (next_of c.args.session.now.run) (Some (plain_command c.args.c.now)) ≡ false = sym c.if-is_piece_of_next.ensures in
     rw none (ap state_later (c.without_run.ensures channel))
