@@ -1,12 +1,12 @@
 //! What bytes are read as before they are answered.
-ghost use Rattle.std.specs.Prelude.{◌≡◌, ◌≤◌, length, Option, Some, None, option_map, IfOk, IfErr, OnOk, OnErr};
+ghost use Rattle.std.specs.Prelude.{◌≡◌, ◌≤◌, length, Option, Some, None, option_map, IfOk, IfErr, OnOk};
 ghost use Rattle.eid_apdu.specs.Command.{plain_command};
 ghost use Rattle.eid_sm.specs.Keys.{advanced};
 ghost use Rattle.eid_sm.specs.Plain.{plain_of};
 ghost use Rattle.eid_model.specs.Legal.{IsReadAs};
 ghost use Rattle.eid_model.specs.Rules.{OfCommand};
 ghost use Rattle.eid_chip.specs.Requests.{IsUnread};
-ghost use Rattle.eid_chip.specs.Steps.{refusal};
+ghost use Rattle.eid_chip.specs.Steps.{message_in, refusal};
 
 use crate::refusal::{NO_COMMAND, NO_OBJECTS, Refusal, WRONG_OBJECTS};
 use arrayvec::ArrayVec;
@@ -34,6 +34,7 @@ fn apart(c: &Command<'_>, body: &mut ArrayVec<u8, MAX_BODY>) -> Header
 fn read_plain(bytes: &[u8], body: &mut ArrayVec<u8, MAX_BODY>) -> Result<Header, Refusal>
     ensures read { IfOk result (λ header. IsReadAs None bytes.now (OfCommand (plain_of header body.new.items))) }
     ensures unread { IfErr result (λ refused. IsUnread None bytes.now (refusal refused)) }
+    ensures rule { IfErr result (λ refused. refused.rule.0 ≡ 1) }
 {
     let Ok(c) = read_command(bytes) else {
         return Err(NO_COMMAND);
@@ -54,7 +55,7 @@ fn read_protected(
     ensures read { IfOk result (λ header. IsReadAs (Some channel.old) bytes.now (OfCommand (plain_of header body.new.items))) }
     ensures unread { IfErr result (λ refused. IsUnread (Some channel.old) bytes.now (refusal refused)) }
     ensures counted { OnOk result (channel.new ≡ advanced channel.old) }
-    ensures kept { OnErr result (channel.new ≡ channel.old) }
+    ensures kept { IfErr result (λ refused. Some channel.new ≡ message_in refused.rule.0 (Some channel.old)) }
 {
     match channel.unwrap(bytes, body) {
         Ok(header) => Ok(header),
@@ -72,7 +73,7 @@ pub fn read_incoming(
     ensures read { IfOk result (λ header. IsReadAs channel.old bytes.now (OfCommand (plain_of header body.new.items))) }
     ensures unread { IfErr result (λ refused. IsUnread channel.old bytes.now (refusal refused)) }
     ensures counted { OnOk result (channel.new ≡ option_map advanced channel.old) }
-    ensures kept { OnErr result (channel.new ≡ channel.old) }
+    ensures kept { IfErr result (λ refused. channel.new ≡ message_in refused.rule.0 channel.old) }
 {
     match channel {
         None => read_plain(bytes, body),

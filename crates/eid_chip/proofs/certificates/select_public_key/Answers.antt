@@ -9,6 +9,7 @@ use Rattle.eid_model.specs.declared.kind.Kind.TheVariants.{SelectPublicKey, Veri
 use Rattle.eid_model.specs.Bodies.{key_name_in}
 use Rattle.eid_cvc.specs.Chains.{known_view}
 use Rattle.eid_model.specs.Runs.{ChoseKey, NotBegun}
+use Rattle.eid_chip.specs.Endings.{reacted}
 use Rattle.eid_chip.proofs.PaceSteps.{moved}
 use Rattle.eid_chip.proofs.Selections.{some_after}
 use Rattle.eid_chip.specs.States.{state}
@@ -31,5 +32,5 @@ returns-in_default-signer-clause-told c = λ full channel fields.
     let out = c.carried_out.ensures.did in
     let written = rw c.unwrap.ensures at c.try_extend_from_slice.ensures.ok in
     let items : c.try_extend_from_slice.new.self.items ≡ name = written ∙ ap (λ (l : List ℕ). l ++ name) c.new-chosen.ensures in
-    carried SelectPublicKey full old command c.carried_out.result (plain_reply c.carried_out.new.reply) refl passes out.0 out.3 out.1
-    (ap (λ (s : Session). state s (option_map two_messages_later channel)) out.2 ∙ ap (λ (l : List ℕ). moved (Some VerifyCertificate) (ChoseKey l) NotBegun old) items ∙ key_leaves full old command name named)
+    carried SelectPublicKey full old command (reacted c.carried_out.result c.go_on.new.self) (plain_reply c.carried_out.new.reply) refl passes out.0 out.2 out.1
+    (ap (λ (s : Session). state s (option_map two_messages_later channel)) c.go_on.ensures ∙ ap (λ (l : List ℕ). moved (Some VerifyCertificate) (ChoseKey l) NotBegun old) items ∙ key_leaves full old command name named)

@@ -42,7 +42,7 @@ returns-in-Err-clause-told g c =
       tells = λ channel. nonce_refused (held cells) (state c.args.session.now channel) (plain_command c.args.c.now) choice _ _ ends.end c.in-Err.rule.0 (reacted c.refused-in-Err.result c.refused-in-Err.new.session) said (ap phase_of (sym c.take_run.ensures.run ∙ c.in-Chosen.is)) (sym c.if-not-is_no_data.ensures) by ends.gives (record {
         rule = ap (λ (r : Rule). r.0) c.refused-in-Err.ensures.rule ∙ ap (λ (r : PlainRefusal). r.rule) c.start_refusal.ensures;
         answered = c.refused-in-Err.ensures.reply ∙ ap (λ (r : PlainRefusal). status_alone r.status) c.start_refusal.ensures;
-        state = c.refused-in-Err.ensures.left channel ∙ idle_refused _ _ c.args.session.now c.take_run.new.session channel (ap (λ (r : PlainRefusal). r.rule) c.start_refusal.ensures) c.take_run.ensures.memory;
+        state = c.refused-in-Err.ensures.left channel ∙ idle_refused _ _ c.args.session.now c.take_run.new.self channel (ap (λ (r : PlainRefusal). r.rule) c.start_refusal.ensures) c.take_run.ensures.memory;
       });
     }
 
@@ -60,6 +60,6 @@ returns-in-Ok-clause-told g c =
       asks = nonce_asks _ ends.end;
       were_asked = ends.asked;
       tells = λ channel.
-          nonce_sent (held cells) (state c.args.session.now channel) (plain_command c.args.c.now) choice _ ends.end (nonce_sent_view c.in-Ok.given.0) c.in-Ok.given.1 (reacted c.answered.result c.go_on.new.session) said (ap phase_of (sym c.take_run.ensures.run ∙ c.in-Chosen.is)) (sym c.if-not-is_no_data.ensures) by gives
-          (went_on (reacted c.answered.result c.go_on.new.session) said c.args.session.now channel _ _ done.0 c.put_data.ensures.plain done.1 c.go_on.ensures (sym c.take_run.ensures.memory));
+          nonce_sent (held cells) (state c.args.session.now channel) (plain_command c.args.c.now) choice _ ends.end (nonce_sent_view c.in-Ok.given.0) c.in-Ok.given.1 (reacted c.answered.result c.go_on.new.self) said (ap phase_of (sym c.take_run.ensures.run ∙ c.in-Chosen.is)) (sym c.if-not-is_no_data.ensures) by gives
+          (went_on (reacted c.answered.result c.go_on.new.self) said c.args.session.now channel _ _ done.0 c.put_data.ensures.plain done.1 c.go_on.ensures (sym c.take_run.ensures.memory));
     }

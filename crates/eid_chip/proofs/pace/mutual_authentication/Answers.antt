@@ -38,7 +38,7 @@ returns-in-Pin-clause-performed g c = λ copro.
     let old = world copro c.args.store.now (device c.args.cells.now) (cells c.args.cells.now) in
     let new = world copro c.prove_pin.new.store (device c.prove_pin.new.cells) (cells c.prove_pin.new.cells) in
     let begun = c.args.session.now.authentication in
-    let memory = c.take_run.new.session.memory in
+    let memory = c.take_run.new.self.memory in
     let same : c.args.session.now ≡ at_tokens c.in-Agreed.agreed begun memory =
     ap (λ (r : Run). record c.args.session.now { run = r }) (sym c.take_run.ensures.run ∙ c.in-Agreed.is) ∙ ap (λ (m : Memory). at_tokens c.in-Agreed.agreed begun m) (sym c.take_run.ensures.memory) in
     let sends : SendsToken command c.in-Some.token = record { formed = c.in-Some.ensures.found.1; is = c.in-Some.ensures.found.0 } in
@@ -62,7 +62,7 @@ returns-in_default-password-clause-performed g c = λ copro.
     let full = held (cells c.args.cells.now) in
     let other = not_pin c.in-Agreed.agreed.choice.password (λ is. c.in_default-password.not-Pin (c.password.ensures ∙ is)) in
     let begun = c.args.session.now.authentication in
-    let memory = c.take_run.new.session.memory in
+    let memory = c.take_run.new.self.memory in
     let same : c.args.session.now ≡ at_tokens c.in-Agreed.agreed begun memory =
     ap (λ (r : Run). record c.args.session.now { run = r }) (sym c.take_run.ensures.run ∙ c.in-Agreed.is) ∙ ap (λ (m : Memory). at_tokens c.in-Agreed.agreed begun m) (sym c.take_run.ensures.memory) in
     let sends : SendsToken command c.in-Some.token = record { formed = c.in-Some.ensures.found.1; is = c.in-Some.ensures.found.0 } in

@@ -33,6 +33,6 @@ returns-in-Ok-clause-told g c kept =
       asks = agree_asks mapped c.in-Some.peer ends.end;
       were_asked = ends.asked;
       tells = λ channel.
-          agreed_on kept (state c.args.session.now channel) (plain_command c.args.c.now) mapped c.in-Some.peer ends.end (agreed_view c.in-Ok.given.0) c.in-Ok.given.1 (reacted c.answered.result c.go_on.new.session) said (ap phase_of (sym c.take_run.ensures.run ∙ c.in-Mapped.is)) body.0 body.1 ends.gives
-          (went_on (reacted c.answered.result c.go_on.new.session) said c.args.session.now channel _ _ done.0 c.put_data.ensures.plain done.1 c.go_on.ensures (sym c.take_run.ensures.memory));
+          agreed_on kept (state c.args.session.now channel) (plain_command c.args.c.now) mapped c.in-Some.peer ends.end (agreed_view c.in-Ok.given.0) c.in-Ok.given.1 (reacted c.answered.result c.go_on.new.self) said (ap phase_of (sym c.take_run.ensures.run ∙ c.in-Mapped.is)) body.0 body.1 ends.gives
+          (went_on (reacted c.answered.result c.go_on.new.self) said c.args.session.now channel _ _ done.0 c.put_data.ensures.plain done.1 c.go_on.ensures (sym c.take_run.ensures.memory));
     }

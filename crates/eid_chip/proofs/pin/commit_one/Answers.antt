@@ -1,5 +1,5 @@
 -- How each return ends: by the commit number, and by whether the commit was cut.
-use Rattle.std.proofs.Common.{◌≡◌, ap, sym, ◌∙◌, subst, arith}
+use Rattle.std.proofs.Common.{◌≡◌, refl, ap, sym, ◌∙◌, subst, arith}
 use Rattle.eid_apdu.specs.Answer.{plain_reply}
 use Rattle.eid_base.specs.declared.codes.Rule.{Rule}
 use Rattle.eid_record.specs.Plain.{PlainRecord}
@@ -51,5 +51,5 @@ returns-clause-ended g c = λ before after channel kind command asks one.
     let said = plain_reply c.carried_out.new.reply in
     let did = c.carried_out.ensures.did in
     subst (λ (e : Ended). IsEndedByKind kind (state c.args.session.now channel) command asks e said (world before c.args.store.now (device c.args.cells.now) (cells c.args.cells.now)) (world after c.commit.new.self (device c.commit.new.cells) (cells c.commit.new.cells))) (sym (c.committed.ensures.ended _))
-    (one_committed kind c.args.session.now c.leaving.result channel command asks effect c.args.change c.carried_out.result said before after c.args.store.now c.commit.new.self (device c.args.cells.now) (device c.commit.new.cells) (cells c.args.cells.now) (cells c.commit.new.cells)
-    one (omega (arith, number, c.if-kept-gt-LAST_NUMBER.false)) has did.0 did.1 did.2 did.3 c.leaving.ensures)
+    (one_committed kind c.args.session.now c.leave.new.self channel command asks effect c.args.change (reacted c.carried_out.result c.leave.new.self) said before after c.args.store.now c.commit.new.self (device c.args.cells.now) (device c.commit.new.cells) (cells c.args.cells.now) (cells c.commit.new.cells)
+    one (omega (arith, number, c.if-kept-gt-LAST_NUMBER.false)) has did.0 did.1 refl did.2 c.leave.ensures.left)

@@ -62,7 +62,7 @@ returns-clause-told g c full fields =
       asks = sector_asks full.fields.ri_secret keys.first one.end ++ sector_asks full.fields.ri_secret keys.second other.end;
       were_asked = rw fields (asked_both one.asked other.asked);
       tells = λ channel.
-          identified_to full (state c.args.session.now channel) (plain_command c.args.c.now) keys.first keys.second one.end other.end c.in-Ok.first c.in-Ok-identify.second c.answered.result said
+          identified_to full (state c.args.session.now channel) (plain_command c.args.c.now) keys.first keys.second one.end other.end c.in-Ok.first c.in-Ok-identify.second (reacted c.answered.result c.end_run.new.self) said
           (record { body = sym c.in-Some.ensures; its = sym c.are_its_sectors.ensures ∙ c.if-not-are_its_sectors.false }) one.gives other.gives
-          (identified_so c.answered.result said c.args.session.now channel c.idle.result (data_alone (object 0x7C (identifier_object 0x81 c.in-Ok.first ++ identifier_object 0x83 c.in-Ok-identify.second))) done.0 c.put_identifiers.ensures.plain done.2 done.1 c.idle.ensures.0 c.idle.ensures.1);
+          (identified_so (reacted c.answered.result c.end_run.new.self) said c.args.session.now channel c.end_run.new.self (data_alone (object 0x7C (identifier_object 0x81 c.in-Ok.first ++ identifier_object 0x83 c.in-Ok-identify.second))) done.0 c.put_identifiers.ensures.plain done.1 refl c.end_run.ensures.idle.0 c.end_run.ensures.idle.1 c.end_run.ensures.memory);
     }

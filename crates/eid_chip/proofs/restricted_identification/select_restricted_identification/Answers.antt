@@ -35,5 +35,5 @@ returns-clause-told c = λ kept channel.
     let named = sym c.names_restricted_identification.ensures ∙ c.if-not-names_restricted_identification.false in
     let served = passed_is c.check_identification.result c.in_default.field-0 (identification_refused old) (c.check_identification.ensures ∙ identification_at c.args.session.now channel) c.in_default.is in
     let out = c.carried_out.ensures.did in
-    carried SelectRestrictedIdentification kept old command c.carried_out.result (plain_reply c.carried_out.new.reply) refl (selection_passes kept old command named served) out.0 out.3 out.1
-    (ap (λ (s : Session). state s (option_map two_messages_later channel)) out.2 ∙ selection_leaves kept old command)
+    carried SelectRestrictedIdentification kept old command (reacted c.carried_out.result c.go_on.new.self) (plain_reply c.carried_out.new.reply) refl (selection_passes kept old command named served) out.0 out.2 out.1
+    (ap (λ (s : Session). state s (option_map two_messages_later channel)) c.go_on.ensures ∙ selection_leaves kept old command)

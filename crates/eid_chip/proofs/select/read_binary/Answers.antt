@@ -10,9 +10,9 @@ use Rattle.eid_model.specs.Rules.{bytes_of_file, offset_meant}
 use Rattle.eid_model.specs.Answers.{read_reply}
 use Rattle.eid_apdu.specs.Answer.{plain_reply}
 use Rattle.eid_chip.specs.Endings.{reacted}
-use Rattle.eid_chip.specs.Transitions.{two_messages_later}
+use Rattle.eid_chip.specs.Transitions.{two_messages_later, with_change, without_run}
 use Rattle.eid_record.specs.declared.fields.FileNo.{FileNo}
-use Rattle.eid_chip.specs.declared.session.Session.{Session}
+use Rattle.eid_chip.specs.declared.session.Change.{Change}
 use Rattle.eid_chip.specs.Granting.{reading_refused}
 use Rattle.eid_chip.specs.Held.{held, held_file}
 use Rattle.eid_chip.specs.States.{state}
@@ -23,7 +23,7 @@ use Rattle.eid_chip.proofs.RightSteps.{passed_is, reading_at, reading_fails, rea
 use Rattle.eid_chip.proofs.Selections.{first_holds, second_holds, some_after}
 use Rattle.eid_files.specs.Ranges.{range_view}
 use Rattle.eid_chip.proofs.HeldFiles.{given_is, given_none, range_is}
-use Rattle.eid_chip.proofs.ReadSteps.{MeansFile, none_there, read_absent, read_behind, read_passes, read_answers, read_leaves}
+use Rattle.eid_chip.proofs.ReadSteps.{MeansFile, none_there, read_absent, read_behind, read_passes, read_answers, read_leaves, file_named}
 use Rattle.eid_chip.proofs.select.read_binary.Goals as goal
 use Rattle.eid_chip.proofs.select.read_binary.Goals.{else-c-lt128-via-then-c-lt128+else-is_none, else-c-lt128-via-else-c-lt128}
 
@@ -91,6 +91,7 @@ returns-clause-told g c = λ channel.
     let reply : said ≡ read_reply (drop (offset_meant command) (unwrap_or (bytes_of_file kept (Some c.in-Some.file.0)) [])) c.args.c.now.ne =
     put ∙ range_is (held_file (g.E.Eeprom.cells c.args.cells.now) c.in-Some.file.0) c.in-Some-file_length.length c.meant_offset-offset.result c.args.c.now.ne c.in-Ok.count _ c.in-Ok.status.0 c.in-Some-file_length.ensures.length given c.put_answer.ensures.content
     ∙ ap (λ (n : ℕ). read_reply (drop n (unwrap_or (held_file (g.E.Eeprom.cells c.args.cells.now) c.in-Some.file.0) [])) c.args.c.now.ne) c.meant_offset-offset.ensures in
-    carried ReadBinary kept old command c.answered.result said refl passes out.0 out.2
+    let change = ap (λ (x : Change). with_change x (without_run (state c.args.session.now later))) c.naming.ensures ∙ file_named (is_by_short command) c.in-Some.file _ in
+    carried ReadBinary kept old command (reacted c.answered.result c.leave.new.self) said refl passes out.0 out.1
     (reply ∙ read_answers kept old command _ meant)
-    (ap (λ (s : Session). state s later) out.1 ∙ c.after_read.ensures later ∙ read_leaves kept old command _ meant)
+    (c.leave.ensures.left later ∙ change ∙ read_leaves kept old command _ meant)

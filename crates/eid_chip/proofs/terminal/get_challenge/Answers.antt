@@ -1,5 +1,5 @@
 -- The challenge that was drawn is sent.
-use Rattle.std.proofs.Common.{[], refl, ap, sym}
+use Rattle.std.proofs.Common.{[], refl, ap, sym, ◌∙◌}
 use Rattle.eid_apdu.specs.Command.{plain_command}
 use Rattle.eid_apdu.specs.Answer.{plain_reply}
 use Rattle.eid_base.specs.declared.codes.Rule.{Rule}
@@ -32,6 +32,6 @@ returns-in-Ok-clause-told g c kept =
       asks = challenge_asks ends.end;
       were_asked = ends.asked;
       tells = λ channel.
-          challenge_sent kept (state c.args.session.now channel) (plain_command c.args.c.now) c.in-Announced.identity (announced_view c.in-Announced.announced) ends.end (challenged_view c.in-Ok.given.0) c.in-Ok.given.1 c.answered.result said
-          (ap authentication_of (sym c.take_authentication.ensures.authentication ∙ c.in-Announced.is)) (sym c.if-not-is_empty.ensures) ends.gives (went_on c.answered.result said c.args.session.now channel _ _ done.0 c.put_plain.ensures.plain done.2 done.1 refl);
+          challenge_sent kept (state c.args.session.now channel) (plain_command c.args.c.now) c.in-Announced.identity (announced_view c.in-Announced.announced) ends.end (challenged_view c.in-Ok.given.0) c.in-Ok.given.1 (reacted c.answered.result c.authenticate.new.self) said
+          (ap authentication_of (sym c.take_authentication.ensures.authentication ∙ c.in-Announced.is)) (sym c.if-not-is_empty.ensures) ends.gives (went_on (reacted c.answered.result c.authenticate.new.self) said c.args.session.now channel _ _ done.0 c.put_plain.ensures.plain done.1 c.authenticate.ensures (sym c.take_authentication.ensures.memory));
     }

@@ -13,7 +13,7 @@ use Rattle.eid_chip.specs.States.{state}
 use Rattle.eid_chip.specs.Steps.{refusal}
 use Rattle.eid_chip.specs.Transitions.{two_messages_later}
 use Rattle.eid_chip.specs.declared.session.Session.{Session}
-use Rattle.eid_chip.proofs.CarriedOut.{carried}
+use Rattle.eid_chip.proofs.CarriedOut.{carried, idle_state}
 use Rattle.eid_chip.proofs.Outcomes.{kind_refused}
 use Rattle.eid_chip.proofs.RightSteps.{comparing_at, comparing_fails, comparing_rules, passed_is, refused_is, sent_rules}
 use Rattle.eid_chip.proofs.VerifySteps.{compared_fails, compared_passes, stored_for, verify_leaves}
@@ -53,5 +53,5 @@ returns-clause-told g c = λ channel.
     let passes = compared_passes kept old command c.in-Some.comparison (sym c.in-Some.ensures) served yes in
     let out = c.carried_out.ensures.did in
     let later = option_map two_messages_later channel in
-    carried VerifyAuxiliary kept old command c.carried_out.result (plain_reply c.carried_out.new.reply) refl passes out.0 out.3 out.1
-    (ap (λ (s : Session). state s later) out.2 ∙ c.without_run.ensures later ∙ verify_leaves kept.fields old command)
+    carried VerifyAuxiliary kept old command (reacted c.carried_out.result c.end_run.new.self) (plain_reply c.carried_out.new.reply) refl passes out.0 out.2 out.1
+    (idle_state c.end_run.new.self c.args.session.now.memory later c.end_run.ensures.idle.0 c.end_run.ensures.idle.1 c.end_run.ensures.memory ∙ verify_leaves kept.fields old command)
