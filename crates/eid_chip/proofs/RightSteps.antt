@@ -322,7 +322,7 @@ sent_rules comparison stored None = refl
 sent_rules comparison stored (Some sent) = verdict_rules (compared_to comparison stored sent)
 
 -- the refusal of a result, of the rules that it goes by
-pub refused_is : (result : Result Unit Refusal) (r : Refusal) (o : Option PlainRefusal) → refusal_in result ≡ o → result ≡ Err r → (o ≡ Some (refusal r)) × (AreRules o → (r.rule == 0) ≡ false)
+pub refused_is : (result : Result Unit Refusal) (r : Refusal) (o : Option PlainRefusal) → refusal_in result ≡ o → result ≡ Err r → (o ≡ Some (refusal r)) × (AreRules o → (r.rule.0 == 0) ≡ false)
 refused_is result r o is err =
     let so : o ≡ Some (refusal r) = sym is ∙ ap refusal_in err in
     (so, λ are. subst AreRules so are)

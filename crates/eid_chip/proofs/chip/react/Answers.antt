@@ -56,3 +56,9 @@ returns-clause-reacts g c =
     ∙ ap (λ (x : PlainCommand). Some (kind_by c.in-Ok-Ends.last x.body)) (sym c.request_of-request.ensures) ∙ ap (λ (k : Kind). Some k) (sym c.kind_of-kind.ensures) in
     request_answered session c.args.chain.now.pending command (plain_command c.request_of-request.result) c.kind_of-kind.result (ended c.perform.result c.perform.new.session) (plain_reply c.perform.new.reply) c.end_request.new.chain.pending _ _
     ends.goes_on ends.short named named_so.passed whole c.end_request.ensures.closed c.perform.ensures.performed
+
+pub invariant_of-running : goal.invariant_of-running
+invariant_of-running g c = _
+
+pub invariant_of-running-2 : goal.invariant_of-running-2
+invariant_of-running-2 g c = _

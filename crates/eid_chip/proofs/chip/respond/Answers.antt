@@ -1,5 +1,5 @@
 -- What is incoming is what was read.
-use Rattle.std.proofs.Common.{◌≡◌, ◌∙◌, ap, refl, None}
+use Rattle.std.proofs.Common.{◌≡◌, ◌∙◌, ℕ, ap, sym, refl, None}
 use Rattle.eid_base.specs.declared.codes.Rule.{Rule}
 use Rattle.eid_apdu.specs.Command.{plain_command}
 use Rattle.eid_apdu.specs.Answer.{plain_reply}
@@ -8,7 +8,7 @@ use Rattle.eid_model.specs.Rules.{OfCommand}
 use Rattle.eid_chip.specs.Endings.{ended, reacted}
 use Rattle.eid_chip.specs.Held.{held}
 use Rattle.eid_chip.specs.States.{chained, state}
-use Rattle.eid_chip.specs.Steps.{refusal}
+use Rattle.eid_chip.specs.Steps.{message_in, refusal, rule_of}
 use Rattle.eid_chip.proofs.Outcomes.{transport_refused, refused_responds, command_answered}
 use Rattle.eid_chip.proofs.chip.respond.Goals as goal
 
@@ -25,6 +25,11 @@ returns-in-Err-clause-responds g c =
     unread.reads unread.none refl (c.uncommitted.ensures.ended _) (ap (λ (x : Collected). x.pending) c.close.ensures)
     (transport_refused kept (chained fragments (state session channel)) unread.incoming (refusal c.in-Err.refusal) r (plain_reply refused.new.reply) (unread.fails kept _) unread.by_a_rule
     (ap (λ (r : Rule). r.0) refused.ensures.rule) refused.ensures.reply (refused.ensures.left channel))
+
+pub returns-in-Err-clause-channel : goal.returns-in-Err-clause-channel
+returns-in-Err-clause-channel g c =
+    c.in-Err.ensures.kept
+    ∙ ap (λ (n : ℕ). message_in n c.args.running.now.channel) (sym (ap rule_of (c.uncommitted.ensures.ended c.refused-reaction.new.session) ∙ ap (λ (r : Rule). r.0) c.refused-reaction.ensures.rule))
 
 pub returns-clause-responds : goal.returns-clause-responds
 returns-clause-responds g c =
