@@ -5,7 +5,7 @@ use Rattle.std.specs.Option.{option_or}
 use Rattle.eid_apdu.specs.Answer.{plain_reply}
 use Rattle.eid_sm.specs.Keys.{ChannelState}
 use Rattle.eid_model.specs.Moments.{ends_session_by}
-use Rattle.eid_chip.specs.declared.reaction.Ending.{Ending}
+use Rattle.eid_chip.specs.Endings.{Ended}
 use Rattle.eid_chip.specs.Worlds.{world}
 use Rattle.eid_chip.specs.States.{ChipView, RunningView, running_view}
 use Rattle.eid_chip.specs.Fits.{IsSoundRunning}
@@ -30,14 +30,14 @@ returns-in-Answered-clause-handles g c =
     let now = world (g.C.Coprocessor.seen c.respond_any-plain.new.copro) c.respond_any-plain.new.store (g.E.Eeprom.device c.respond_any-plain.new.cells) (g.E.Eeprom.cells c.respond_any-plain.new.cells) in
     let alive : c.args.self.now.running ≡ Some (running_view c.self.inside.chain.pending running) =
     ap (λ (v : ChipView). v.running) (sym c.self.view_is) ∙ ap (option_map (running_view c.self.inside.chain.pending)) (sym c.replace.ensures.value ∙ c.in-Some.is) in
-    let incoming : c.respond_any-plain.new.channel ≡ message_in r.rule.0 running.channel =
-    c.respond_any-plain.ensures.channel ∙ ap (λ (e : Ending). message_in (rule_of e) running.channel) c.in-Answered.is in
+    let incoming : c.respond_any-plain.new.channel ≡ message_in r.rule running.channel =
+    c.respond_any-plain.ensures.channel ∙ ap (λ (e : Ended). message_in (rule_of e) running.channel) c.in-Answered.is in
     let written : c.go_on.new.exchange.sent.items ≡ _ =
-    c.go_on.ensures.sent ∙ ap (λ (ch : Option ChannelState). sent_next ch r.rule.0 said) incoming ∙ sent_so running.channel r.rule.0 said in
+    c.go_on.ensures.sent ∙ ap (λ (ch : Option ChannelState). sent_next ch r.rule said) incoming ∙ sent_so running.channel r.rule said in
     let kept : c.go_on.result.channel ≡ _ =
     c.go_on.ensures.channel
-    ∙ ap (λ (ch : Option ChannelState). if ends_session_by r.rule.0 then None else option_or r.opened (message_in r.rule.0 ch)) incoming
-    ∙ kept_channel running.channel r.opened r.rule.0 in
+    ∙ ap (λ (ch : Option ChannelState). if ends_session_by r.rule then None else option_or r.opened (message_in r.rule ch)) incoming
+    ∙ kept_channel running.channel r.opened r.rule in
     rw (c.go_on.ensures.said.0, c.go_on.ensures.said.1)
     (handles_answer c.args.self.now c.self.inside.chain.pending c.respond_any-plain.new.chain.pending running c.go_on.result c.args.bytes.now _ c.respond_any-plain.result.ending r c.in-Answered.finished said c.go_on.new.exchange.sent.items was now
     alive c.respond_any-plain.ensures.responds c.in-Answered.is c.go_on.ensures.session.0 c.go_on.ensures.session.1 kept written)
