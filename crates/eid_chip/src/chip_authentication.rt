@@ -86,7 +86,7 @@ fn accept(proven: Proven, session: &mut Session, reply: &mut Reply) -> Reaction
     session.memory.chip_proven = true;
     Reaction {
         rule: Rule(0),
-        opened: Some(Channel::new(proven.enc, proven.mac)),
+        opened: Some(Channel::new(proven.keys)),
     }
 }
 

@@ -211,9 +211,7 @@ fn last_pace(done: &Done) -> LastPace
 fn channel_of(done: &Done) -> Channel
     ensures { result ≡ channel_after 0 (keys_of (done_view done.now)) }
 {
-    let enc = done.enc;
-    let mac = done.mac;
-    Channel::new(enc, mac)
+    Channel::new(done.keys)
 }
 
 /// The last step where the terminal's token was right: the chip's is sent in 86 with the names of the trust points in 87
