@@ -23,7 +23,6 @@ use Rattle.eid_model.proofs.Ledgers.{nothing_committed}
 use Rattle.eid_chip.specs.Endings.{Ended, Reacted}
 use Rattle.eid_chip.specs.Endings as ended
 use Rattle.eid_chip.specs.declared.running.Running.{Running}
-use Rattle.eid_chip.specs.declared.session.Session.{Session}
 use Rattle.eid_chip.specs.Held.{held}
 use Rattle.eid_chip.specs.Worlds.{World}
 use Rattle.eid_chip.specs.States.{RunningView, ChipView, chained, running_view, state}
@@ -236,6 +235,9 @@ handles_silence chip after bytes copro device cells off still = record {
   sound = rw still tt;
 }
 
--- the same with other words for what came
-pub handles_same : (before after : CoproSeen) (old new : Scene) (bytes : List ℕ) (one other : Came) → one ≡ other → Handles before after old new bytes one → Handles before after old new bytes other
-handles_same before after old new bytes one other same handles = subst (λ (c : Came). Handles before after old new bytes c) same handles
+-- the same of chips that are the same
+pub handles_same : (before after : CoproSeen) (chip old new behind : ChipView) (device now : Device) (cells cells_now : List ℕ) (bytes : List ℕ) (came : Came) → chip ≡ old → behind ≡ new
+    → Handles before after (scene chip device cells) (scene behind now cells_now) bytes came → Handles before after (scene old device cells) (scene new now cells_now) bytes came
+handles_same before after chip old new behind device now cells cells_now bytes came same kept handles =
+    subst (λ (v : ChipView). Handles before after (scene v device cells) (scene new now cells_now) bytes came) same
+    (subst (λ (v : ChipView). Handles before after (scene chip device cells) (scene v now cells_now) bytes came) kept handles)

@@ -1,6 +1,6 @@
 -- The chip answered, and keeps the store, the session and the channel; or it was lost in a commit.
-use Rattle.std.proofs.Common.{◌≡◌, refl, sym, ◌∙◌, ap, Option, Some, None}
-use Rattle.std.specs.Prelude.{option_map, if◌then◌else◌}
+use Rattle.std.proofs.Common.{◌≡◌, refl, ◌∙◌, ap, Option, None}
+use Rattle.std.specs.Prelude.{if◌then◌else◌}
 use Rattle.std.specs.Option.{option_or}
 use Rattle.eid_apdu.specs.Answer.{plain_reply}
 use Rattle.eid_sm.specs.Keys.{ChannelState}
@@ -8,7 +8,6 @@ use Rattle.eid_model.specs.Moments.{ends_session_by}
 use Rattle.eid_chip.specs.declared.reaction.Ending.{Ending}
 use Rattle.eid_chip.specs.Endings.{Answered, Ended, Lost, ended, powered, reacted}
 use Rattle.eid_chip.specs.Worlds.{world}
-use Rattle.eid_chip.specs.States.{ChipView, running_view}
 use Rattle.eid_chip.specs.Steps.{message_in, sent_next, rule_of}
 use Rattle.eid_chip.proofs.Chips.{handles_answer, handles_loss, sent_so, kept_channel}
 use Rattle.eid_chip.proofs.chip.handle_on.Goals as goal

@@ -1,5 +1,5 @@
 -- A fragment, the command that ends a request, and one that is refused before its kind is known.
-use Rattle.std.proofs.Common.{◌≡◌, ◌∙◌, ap, sym, subst, refl, List, ℕ, [], Some}
+use Rattle.std.proofs.Common.{◌≡◌, ◌∙◌, ap, sym, subst, List, ℕ, [], Some}
 use Rattle.eid_base.specs.declared.codes.Rule.{Rule}
 use Rattle.eid_apdu.specs.Command.{PlainCommand, plain_command}
 use Rattle.eid_apdu.specs.Answer.{plain_reply}
@@ -64,9 +64,11 @@ returns-clause-reacts g c =
 pub invariant_of-running : goal.invariant_of-running
 invariant_of-running g c =
     let w = world (g.C.Coprocessor.seen c.args.copro.now) c.args.running.now.store (g.E.Eeprom.device c.args.cells.now) (g.E.Eeprom.cells c.args.cells.now) in
-    record { try_left = reaction_stays c.args.running.now.session c.args.chain.now.pending (plain_command c.args.c.now) (reacted c.take_fragment.result c.take_fragment.new.session) 0 (plain_reply c.take_fragment.new.reply) c.take_fragment.new.chain.pending w w
-    c.requires.mounted c.args.running.now.try_left
-    (c.take_fragment.ensures.reacts (g.C.Coprocessor.seen c.args.copro.now) c.args.running.now.store (g.E.Eeprom.device c.args.cells.now) (g.E.Eeprom.cells c.args.cells.now) c.requires.mounted) }
+    record {
+      try_left = reaction_stays c.args.running.now.session c.args.chain.now.pending (plain_command c.args.c.now) (reacted c.take_fragment.result c.take_fragment.new.session) 0 (plain_reply c.take_fragment.new.reply) c.take_fragment.new.chain.pending w w
+          c.requires.mounted c.args.running.now.try_left
+          (c.take_fragment.ensures.reacts (g.C.Coprocessor.seen c.args.copro.now) c.args.running.now.store (g.E.Eeprom.device c.args.cells.now) (g.E.Eeprom.cells c.args.cells.now) c.requires.mounted);
+    }
 
 -- a request ends by the rules, or its run is over
 pub invariant_of-running-2 : goal.invariant_of-running-2
@@ -82,7 +84,9 @@ invariant_of-running-2 g c =
     ∙ ap (λ (x : PlainCommand). Some (kind_by c.in-Ok-Ends.last x.body)) (sym c.request_of-request.ensures) ∙ ap (λ (k : Kind). Some k) (sym c.kind_of-kind.ensures) in
     let was = world (g.C.Coprocessor.seen c.args.copro.now) c.args.running.now.store (g.E.Eeprom.device c.args.cells.now) (g.E.Eeprom.cells c.args.cells.now) in
     let now = world (g.C.Coprocessor.seen c.perform.new.copro) c.perform.new.store (g.E.Eeprom.device c.perform.new.cells) (g.E.Eeprom.cells c.perform.new.cells) in
-    record { try_left = ending_stays c.perform.result session c.perform.new.session c.args.chain.now.pending command (plain_reply c.perform.new.reply) c.end_request.new.chain.pending was now
-    c.requires.mounted c.args.running.now.try_left c.perform.ensures.lost
-    (request_answered session c.args.chain.now.pending command (plain_command c.request_of-request.result) c.kind_of-kind.result (ended c.perform.result c.perform.new.session) (plain_reply c.perform.new.reply) c.end_request.new.chain.pending was now
-    ends.goes_on ends.short named named_so.passed whole c.end_request.ensures.closed c.perform.ensures.performed) }
+    record {
+      try_left = ending_stays c.perform.result session c.perform.new.session c.args.chain.now.pending command (plain_reply c.perform.new.reply) c.end_request.new.chain.pending was now
+          c.requires.mounted c.args.running.now.try_left c.perform.ensures.lost
+          (request_answered session c.args.chain.now.pending command (plain_command c.request_of-request.result) c.kind_of-kind.result (ended c.perform.result c.perform.new.session) (plain_reply c.perform.new.reply) c.end_request.new.chain.pending was now
+          ends.goes_on ends.short named named_so.passed whole c.end_request.ensures.closed c.perform.ensures.performed);
+    }

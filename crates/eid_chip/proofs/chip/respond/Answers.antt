@@ -1,5 +1,5 @@
 -- What is incoming is what was read.
-use Rattle.std.proofs.Common.{◌≡◌, ◌∙◌, ℕ, ap, sym, refl, None}
+use Rattle.std.proofs.Common.{◌∙◌, ℕ, ap, sym, refl, None}
 use Rattle.eid_base.specs.declared.codes.Rule.{Rule}
 use Rattle.eid_apdu.specs.Command.{plain_command}
 use Rattle.eid_apdu.specs.Answer.{plain_reply}
