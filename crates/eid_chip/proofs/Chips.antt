@@ -23,7 +23,6 @@ use Rattle.eid_model.proofs.Ledgers.{nothing_committed}
 use Rattle.eid_chip.specs.Endings.{Ended, Reacted}
 use Rattle.eid_chip.specs.Endings as ended
 use Rattle.eid_chip.specs.declared.running.Running.{Running}
-use Rattle.eid_chip.specs.declared.session.Session.{Session}
 use Rattle.eid_chip.specs.Held.{held}
 use Rattle.eid_chip.specs.Worlds.{World}
 use Rattle.eid_chip.specs.States.{RunningView, ChipView, chained, running_view, state}
@@ -179,27 +178,26 @@ new_fits s opening off standing = record {
 -- ---- bytes that were handled
 
 -- a chip with power answered
-pub handles_answer : (chip : ChipView) (fragments left : Option OpenChain) (running next : Running) (bytes : List ℕ) (plain : Option PlainCommand) (ending : Ended) (r : Reacted) (finished : ℕ) (reply : PlainReply) (sent : List ℕ) (was now : World)
+pub handles_answer : (chip : ChipView) (fragments left : Option OpenChain) (running : Running) (channel : Option ChannelState) (bytes : List ℕ) (plain : Option PlainCommand) (ending : Ended) (r : Reacted) (finished : ℕ) (reply : PlainReply) (sent : List ℕ) (was now : World)
     → chip.running ≡ Some (running_view fragments running) → Responds running.session running.channel fragments bytes plain ending reply left was now → ending ≡ ended.Answered r finished
-    → next.session ≡ r.session → next.store ≡ now.store → next.channel ≡ channel_left r running.channel → sent ≡ sent_in running.channel r.rule reply
-    → Handles was.copro now.copro (scene chip was.device was.cells) (scene (record { running = Some (running_view left next) }) now.device now.cells) bytes (Answer plain finished r.rule reply sent)
-handles_answer chip fragments left running next bytes plain ending r finished reply sent was now alive responds ends session store channel written =
+    → channel ≡ channel_left r running.channel → sent ≡ sent_in running.channel r.rule reply
+    → Handles was.copro now.copro (scene chip was.device was.cells) (scene (record { running = Some (record { store = now.store; state = chained left (state r.session channel) }) }) now.device now.cells) bytes (Answer plain finished r.rule reply sent)
+handles_answer chip fragments left running channel bytes plain ending r finished reply sent was now alive responds ends is written =
     let did = subst (λ (e : Ended). IsEndedByRules (chained fragments (state running.session running.channel)) responds.incoming responds.asks e reply left was now) ends responds.ended in
-    let next_state : State = chained left (state next.session next.channel) in
-    let left_is : next_state ≡ chained left (state_left r running.channel) =
-    ap (λ (s : Session). chained left (state s next.channel)) session ∙ ap (λ (c : Option ChannelState). chained left (state r.session c)) channel in
+    let next_state : State = chained left (state r.session channel) in
+    let left_is : next_state ≡ chained left (state_left r running.channel) = ap (λ (c : Option ChannelState). chained left (state r.session c)) is in
     record {
       asks = responds.asks;
       were_asked = responds.were_asked;
       unasked = λ silent. absurd (cc);
       follows =
-          chip_answers (scene chip was.device was.cells) (running_view fragments running) (Some (running_view left next)) next_state bytes responds.incoming plain responds.asks r finished reply sent left was now
-          alive refl (ap (λ (s : Store). Some (record { store = s; state = next_state })) store) left_is written responds.reads responds.is_plain did;
+          chip_answers (scene chip was.device was.cells) (running_view fragments running) (Some (record { store = now.store; state = next_state })) next_state bytes responds.incoming plain responds.asks r finished reply sent left was now
+          alive refl refl left_is written responds.reads responds.is_plain did;
       silent = rw alive refl;
       running = refl;
       device = did.leaves.2;
       layout = responds.layout;
-      sound = rw store did.leaves.0;
+      sound = did.leaves.0;
     }
 
 -- a chip with power was lost in a commit
@@ -237,6 +235,9 @@ handles_silence chip after bytes copro device cells off still = record {
   sound = rw still tt;
 }
 
--- the same with other words for what came
-pub handles_same : (before after : CoproSeen) (old new : Scene) (bytes : List ℕ) (one other : Came) → one ≡ other → Handles before after old new bytes one → Handles before after old new bytes other
-handles_same before after old new bytes one other same handles = subst (λ (c : Came). Handles before after old new bytes c) same handles
+-- the same of chips that are the same
+pub handles_same : (before after : CoproSeen) (chip old new behind : ChipView) (device now : Device) (cells cells_now : List ℕ) (bytes : List ℕ) (came : Came) → chip ≡ old → behind ≡ new
+    → Handles before after (scene chip device cells) (scene behind now cells_now) bytes came → Handles before after (scene old device cells) (scene new now cells_now) bytes came
+handles_same before after chip old new behind device now cells cells_now bytes came same kept handles =
+    subst (λ (v : ChipView). Handles before after (scene v device cells) (scene new now cells_now) bytes came) same
+    (subst (λ (v : ChipView). Handles before after (scene chip device cells) (scene v now cells_now) bytes came) kept handles)

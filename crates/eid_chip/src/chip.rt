@@ -15,13 +15,13 @@ ghost use Rattle.eid_model.specs.Kinds.{goes_on_in_run};
 ghost use Rattle.eid_model.specs.Rules.{committing, concerns};
 ghost use Rattle.eid_model.specs.Legal.{silent};
 ghost use Rattle.eid_chip.specs.Commits.{MOST_MOUNTING};
-ghost use Rattle.eid_chip.specs.Endings.{ended, reacted};
+ghost use Rattle.eid_chip.specs.Endings.{ended, left_by, powered, reacted};
 ghost use Rattle.eid_chip.specs.Held.{held};
 ghost use Rattle.eid_chip.specs.States.{next_of};
 ghost use Rattle.eid_chip.specs.Tries.{IsIdleIfLost, IsTryLeft};
 ghost use Rattle.eid_chip.specs.Worlds.{IsMounted, world};
 ghost use Rattle.eid_chip.specs.Steps.{Performed, Reacts, Responds, Stepped, message_in, rule_of, sent_next};
-ghost use Rattle.eid_chip.specs.Fits.{plain_in};
+ghost use Rattle.eid_chip.specs.Fits.{Handles, came_in, plain_in, scene};
 
 use crate::certificates::{select_public_key, verify_certificate};
 use crate::chip_authentication::{authenticate_chip, select_chip_authentication};
@@ -252,6 +252,37 @@ fn finish(reaction: Reaction, channel: &mut Option<Channel>, exchange: &mut Exch
     }
 }
 
+/// Handles the bytes of a command in a chip with power, which has none afterwards where it was lost in a commit.
+fn handle_on<E: Eeprom, C: Coprocessor>(
+    running: &mut Running,
+    chain: &mut Chain<MAX_REQUEST>,
+    cells: &mut E,
+    copro: &mut C,
+    bytes: &[u8],
+    exchange: &mut Exchange,
+) -> HandledIn
+    requires mounted { IsMounted (world (C.seen copro.old) running.old.store (E.device cells.old) (E.cells cells.old)) }
+    requires room { 2 ≤ (C.seen copro.old).spare }
+    ensures handles { Handles (C.seen copro.old) (C.seen copro.new)
+        (scene (powered chain.old.pending running.old) (E.device cells.old) (E.cells cells.old))
+        (scene (left_by result chain.new.pending running.new) (E.device cells.new) (E.cells cells.new)) bytes.now (came_in exchange.new result) }
+    ensures heard { result ≢ HandledIn.Silent }
+{
+    let Response { plain, ending } = respond(running, chain, cells, copro, bytes, exchange);
+    match ending {
+        Ending::Answered { reaction, finished } => {
+            let rule = reaction.rule;
+            finish(reaction, &mut running.channel, exchange);
+            HandledIn::Answered {
+                plain,
+                finished,
+                rule,
+            }
+        }
+        Ending::Lost { finished } => HandledIn::Lost { plain, finished },
+    }
+}
+
 /// A chip. Where it has power it has the store that it mounted and a session; beside them stands the body of a request that is
 /// sent in fragments.
 #[derive(Drop)]
@@ -374,28 +405,11 @@ impl Chip {
         let Some(running) = &mut self.running else {
             return HandledIn::Silent;
         };
-        let Response { plain, ending } = respond(
-            running,
-            &mut self.chain,
-            cells,
-            copro,
-            bytes,
-            exchange,
-        );
-        match ending {
-            Ending::Answered { reaction, finished } => {
-                let rule = reaction.rule;
-                finish(reaction, &mut running.channel, exchange);
-                HandledIn::Answered {
-                    plain,
-                    finished,
-                    rule,
-                }
-            }
-            Ending::Lost { finished } => {
-                self.running = None;
-                HandledIn::Lost { plain, finished }
-            }
+        let came = handle_on(running, &mut self.chain, cells, copro, bytes, exchange);
+        if !came.is_loss() {
+            return came;
         }
+        self.running = None;
+        came
     }
 }

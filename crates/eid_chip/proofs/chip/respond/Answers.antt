@@ -1,5 +1,5 @@
 -- What is incoming is what was read.
-use Rattle.std.proofs.Common.{◌≡◌, ◌∙◌, ℕ, ap, sym, refl, None}
+use Rattle.std.proofs.Common.{◌∙◌, ℕ, ap, sym, refl, None}
 use Rattle.eid_base.specs.declared.codes.Rule.{Rule}
 use Rattle.eid_apdu.specs.Command.{plain_command}
 use Rattle.eid_apdu.specs.Answer.{plain_reply}
@@ -23,7 +23,7 @@ returns-in-Err-clause-responds g c =
     let r = reacted refused.result refused.new.session in
     refused_responds unread.incoming session channel fragments c.args.bytes.now _ _ r (plain_reply refused.new.reply) c.close.new.self.pending (g.C.Coprocessor.seen c.args.copro.now) c.args.running.now.store _ _ c.requires.mounted
     unread.reads unread.none refl (c.uncommitted.ensures.ended _) (ap (λ (x : Collected). x.pending) c.close.ensures)
-    (transport_refused kept (chained fragments (state session channel)) unread.incoming (refusal c.in-Err.refusal) r (plain_reply refused.new.reply) (unread.fails kept _) unread.by_a_rule
+    (transport_refused kept (chained fragments (state session channel)) unread.incoming (refusal c.in-Err.refusal) r (plain_reply refused.new.reply) (unread.fails kept (chained fragments (state session channel))) unread.by_a_rule
     (ap (λ (r : Rule). r.0) refused.ensures.rule) refused.ensures.reply (refused.ensures.left channel))
 
 pub returns-in-Err-clause-channel : goal.returns-in-Err-clause-channel

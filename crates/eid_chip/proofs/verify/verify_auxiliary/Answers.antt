@@ -12,7 +12,6 @@ use Rattle.eid_chip.specs.Held.{held}
 use Rattle.eid_chip.specs.States.{state}
 use Rattle.eid_chip.specs.Steps.{refusal}
 use Rattle.eid_chip.specs.Transitions.{two_messages_later}
-use Rattle.eid_chip.specs.declared.session.Session.{Session}
 use Rattle.eid_chip.proofs.CarriedOut.{carried, idle_state}
 use Rattle.eid_chip.proofs.Outcomes.{kind_refused}
 use Rattle.eid_chip.proofs.RightSteps.{comparing_at, comparing_fails, comparing_rules, passed_is, refused_is, sent_rules}
