@@ -8,11 +8,11 @@ use Rattle.eid_model.specs.declared.kind.Kind.{Kind}
 use Rattle.eid_model.specs.declared.kind.Kind.TheVariants.{SelectApplication, SelectMasterFile, SelectFile, ReadBinary, UpdateBinary, SelectPace, SelectPublicKey, VerifyCertificate, AnnounceTerminal, GetChallenge, ExternalAuthenticate, SelectChipAuthentication, SelectRestrictedIdentification, EncryptedNonce, MapNonce, PerformKeyAgreement, MutualAuthentication, AuthenticateChip, PerformRestrictedIdentification, VerifyAuxiliary, ChangePin, UnblockPin, ChangeCan, ActivatePin, DeactivatePin, NoProtocol, NoStep}
 use Rattle.eid_model.specs.Rules.{Situation, committing, concerns, to_commit}
 use Rattle.eid_chip.specs.Steps.{Stepped}
-use Rattle.eid_chip.specs.declared.reaction.Reaction.{Reaction}
+use Rattle.eid_chip.specs.Endings.{Reacted}
 use Rattle.eid_chip.specs.declared.session.Session.{Session}
 
 -- what a command did, of a kind that is known to be this one
-pub stepped_as : (kind is : Kind) (kept : FullRecord) (session : Session) (c : PlainCommand) (r : Reaction) (reply : PlainReply) (before after : CoproSeen) → kind ≡ is → Stepped before after is kept session c r reply → Stepped before after kind kept session c r reply
+pub stepped_as : (kind is : Kind) (kept : FullRecord) (session : Session) (c : PlainCommand) (r : Reacted) (reply : PlainReply) (before after : CoproSeen) → kind ≡ is → Stepped before after is kept session c r reply → Stepped before after kind kept session c r reply
 stepped_as kind is kept session c r reply before after same did = subst (λ (k : Kind). Stepped before after k kept session c r reply) (sym same) did
 
 -- a kind that is none of those that may commit never does

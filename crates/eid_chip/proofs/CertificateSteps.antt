@@ -29,7 +29,7 @@ use Rattle.eid_model.specs.Runs.{NotBegun, ChoseKey, answers_of, entered, claime
 use Rattle.eid_model.specs.Sessions.{State}
 use Rattle.eid_chip.specs.Steps.{CommitsOne, Imports, IsAnsweredByKind, PlainRefusal, WasRight, known, refusal_by, state_due, state_left, certificate_ask}
 use Rattle.eid_chip.specs.Transitions.{state_carried_out, state_refused}
-use Rattle.eid_chip.specs.declared.reaction.Reaction.{Reaction}
+use Rattle.eid_chip.specs.Endings.{Reacted}
 use Rattle.eid_copro.specs.Asks.{fits_verify}
 use Rattle.eid_model.proofs.Books.{nothing_due_by}
 use Rattle.eid_chip.proofs.CarriedOut.{unasked_at}
@@ -221,8 +221,8 @@ bound_passes : (kept : FullRecord) (old : State) (c : PlainCommand) (given : Lis
     → first_failed (commit_rules ++ proof_rules) (known VerifyCertificate kept old c given) ≡ None
 bound_passes kept old c given none = rw none refl
 
-unchanged_at : (kept : FullRecord) (old : State) (c : PlainCommand) (certificate : PlainCertificate) (a : PlainAccepted) (r : Reaction) (reply : PlainReply) → Imports kept old c certificate a → a.advance ≡ None
-    → r.rule.0 ≡ 0 → reply ≡ status_alone 0x9000 → state_left r old.channel ≡ record (state_refused old) { certificates = a.chain }
+unchanged_at : (kept : FullRecord) (old : State) (c : PlainCommand) (certificate : PlainCertificate) (a : PlainAccepted) (r : Reacted) (reply : PlainReply) → Imports kept old c certificate a → a.advance ≡ None
+    → r.rule ≡ 0 → reply ≡ status_alone 0x9000 → state_left r old.channel ≡ record (state_refused old) { certificates = a.chain }
     → IsAnsweredByKind VerifyCertificate kept old c (certificate_ask certificate a (answers.Verdict true) ∷ []) r reply
 unfolding entered claimed
 unchanged_at kept old c certificate a r reply imports none rule answered left =
@@ -239,8 +239,8 @@ unchanged_at kept old c certificate a r reply imports none rule answered left =
       left = left ∙ rw (rule, imports.reads) (ap (λ (x : PlainChain). record (state_refused old) { certificates = x }) may.chain_is);
     }
 
-pub right_unchanged : (kept : FullRecord) (old : State) (c : PlainCommand) (a : PlainAccepted) (asks : List Ask) (r : Reaction) (reply : PlainReply) → WasRight kept old c a asks → a.advance ≡ None
-    → r.rule.0 ≡ 0 → reply ≡ status_alone 0x9000 → state_left r old.channel ≡ record (state_refused old) { certificates = a.chain }
+pub right_unchanged : (kept : FullRecord) (old : State) (c : PlainCommand) (a : PlainAccepted) (asks : List Ask) (r : Reacted) (reply : PlainReply) → WasRight kept old c a asks → a.advance ≡ None
+    → r.rule ≡ 0 → reply ≡ status_alone 0x9000 → state_left r old.channel ≡ record (state_refused old) { certificates = a.chain }
     → IsAnsweredByKind VerifyCertificate kept old c asks r reply
 right_unchanged kept old c a asks r reply was none rule answered left =
     subst (λ (l : List Ask). IsAnsweredByKind VerifyCertificate kept old c l r reply) (sym was.found) (unchanged_at kept old c was.certificate a r reply was.imports none rule answered left)
@@ -251,15 +251,15 @@ right_undue kept old c a asks was none =
 
 -- ---- a wrong signature, and a fault
 
-pub wrong_answered : (kept : FullRecord) (old : State) (c : PlainCommand) (certificate : PlainCertificate) (a : PlainAccepted) (r : Reaction) (reply : PlainReply) → Imports kept old c certificate a
-    → r.rule.0 ≡ 53 → reply ≡ status_alone 0x6300 → state_left r old.channel ≡ state_due 53 (state_refused old)
+pub wrong_answered : (kept : FullRecord) (old : State) (c : PlainCommand) (certificate : PlainCertificate) (a : PlainAccepted) (r : Reacted) (reply : PlainReply) → Imports kept old c certificate a
+    → r.rule ≡ 53 → reply ≡ status_alone 0x6300 → state_left r old.channel ≡ state_due 53 (state_refused old)
     → IsAnsweredByKind VerifyCertificate kept old c (certificate_ask certificate a (answers.Verdict false) ∷ []) r reply
 wrong_answered kept old c certificate a r reply imports rule answered left =
     let may = allowed kept.fields old.certificates (name_chosen old.phase) certificate.body a imports.given in
     record {
       asked = asked_so kept old c certificate a (answers.Verdict false) imports refl;
       ended = rw (imports.reads, may.issued, may.role, may.link, may.date) (outcome_is 53 _ r reply rule answered);
-      left = left ∙ not_due_by kept.fields r.rule.0 53 VerifyCertificate c (answers.Verdict false ∷ []) old rule refl;
+      left = left ∙ not_due_by kept.fields r.rule 53 VerifyCertificate c (answers.Verdict false ∷ []) old rule refl;
     }
 
 pub wrong_undue : (kept : FullRecord) (old : State) (c : PlainCommand) (certificate : PlainCertificate) (a : PlainAccepted) → Imports kept old c certificate a → due_by kind_rules (known VerifyCertificate kept old c (answers.Verdict false ∷ [])) ≡ []
@@ -267,15 +267,15 @@ wrong_undue kept old c certificate a imports =
     let may = allowed kept.fields old.certificates (name_chosen old.phase) certificate.body a imports.given in
     rw (imports.reads, may.issued, may.role, may.link, may.date) refl
 
-pub fault_answered : (kept : FullRecord) (old : State) (c : PlainCommand) (certificate : PlainCertificate) (a : PlainAccepted) (r : Reaction) (reply : PlainReply) → Imports kept old c certificate a
-    → r.rule.0 ≡ 50 → reply ≡ status_alone 0x6F00 → state_left r old.channel ≡ state_due 50 (state_refused old)
+pub fault_answered : (kept : FullRecord) (old : State) (c : PlainCommand) (certificate : PlainCertificate) (a : PlainAccepted) (r : Reacted) (reply : PlainReply) → Imports kept old c certificate a
+    → r.rule ≡ 50 → reply ≡ status_alone 0x6F00 → state_left r old.channel ≡ state_due 50 (state_refused old)
     → IsAnsweredByKind VerifyCertificate kept old c (certificate_ask certificate a answers.Fault ∷ []) r reply
 fault_answered kept old c certificate a r reply imports rule answered left =
     let may = allowed kept.fields old.certificates (name_chosen old.phase) certificate.body a imports.given in
     record {
       asked = asked_so kept old c certificate a answers.Fault imports refl;
       ended = rw (imports.reads, may.issued, may.role, may.link, may.date) (outcome_is 50 _ r reply rule answered);
-      left = left ∙ not_due_by kept.fields r.rule.0 50 VerifyCertificate c (answers.Fault ∷ []) old rule refl;
+      left = left ∙ not_due_by kept.fields r.rule 50 VerifyCertificate c (answers.Fault ∷ []) old rule refl;
     }
 
 pub fault_undue : (kept : FullRecord) (old : State) (c : PlainCommand) (certificate : PlainCertificate) (a : PlainAccepted) → Imports kept old c certificate a → due_by kind_rules (known VerifyCertificate kept old c (answers.Fault ∷ [])) ≡ []

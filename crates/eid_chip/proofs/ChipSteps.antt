@@ -20,7 +20,7 @@ use Rattle.eid_model.specs.Runs.{Idle, Authentication, ChoseProtocol, as_protoco
 use Rattle.eid_model.specs.Sessions.{State, channel_after}
 use Rattle.eid_chip.specs.Steps.{IsAnsweredByKind, chip_keys, known, state_left}
 use Rattle.eid_chip.specs.Transitions.{context_in, state_carried_out, without_run}
-use Rattle.eid_chip.specs.declared.reaction.Reaction.{Reaction}
+use Rattle.eid_chip.specs.Endings.{Reacted}
 use Rattle.eid_chip.proofs.PaceSteps.{WasUnformed, due, moved, not_due, outcome_is}
 
 -- ---- the selection
@@ -42,19 +42,19 @@ selection_leaves kept old c terminal chosen there given =
 
 -- ---- the step
 
-pub no_chip_point : (kept : FullRecord) (old : State) (c : PlainCommand) (reaction : Reaction) (said : PlainReply) → holds_point 0x80 c.body ≡ false → WasUnformed reaction said old → IsAnsweredByKind AuthenticateChip kept old c [] reaction said
+pub no_chip_point : (kept : FullRecord) (old : State) (c : PlainCommand) (reaction : Reacted) (said : PlainReply) → holds_point 0x80 c.body ≡ false → WasUnformed reaction said old → IsAnsweredByKind AuthenticateChip kept old c [] reaction said
 no_chip_point kept old c reaction said body h = record {
   asked = rw body refl;
   ended = rw body (outcome_is 10 _ reaction said h.rule h.answered);
-  left = h.state ∙ not_due kept.fields reaction.rule.0 AuthenticateChip c [] old h.rule;
+  left = h.state ∙ not_due kept.fields reaction.rule AuthenticateChip c [] old h.rule;
 }
 
 abbrev pub proof_data : PlainProven → List ℕ
 proof_data proven = object 0x7C (object 0x81 proven.nonce ++ object 0x82 proven.token)
 
-pub chip_was_proven : (kept : FullRecord) (old : State) (c : PlainCommand) (chosen : PlainCaChosen) (point : List ℕ) (end : ProveEnd chosen.key_x point) (proven : PlainProven) (reaction : Reaction) (said : PlainReply)
+pub chip_was_proven : (kept : FullRecord) (old : State) (c : PlainCommand) (chosen : PlainCaChosen) (point : List ℕ) (end : ProveEnd chosen.key_x point) (proven : PlainProven) (reaction : Reacted) (said : PlainReply)
     → old.authentication ≡ ChoseProtocol chosen → point ≡ data_in c.body → holds_point 0x80 c.body ≡ true → Ok proven ≡ prove_given chosen point end
-    → reaction.rule.0 ≡ 0 → said ≡ data_alone (proof_data proven)
+    → reaction.rule ≡ 0 → said ≡ data_alone (proof_data proven)
     → state_left reaction old.channel ≡ record (without_run old) { chip_proven = true; channel = Some (channel_after 0 (chip_keys proven)) }
     → IsAnsweredByKind AuthenticateChip kept old c (prove_asks chosen.key_x kept.fields.ca_secret point end) reaction said
 unfolding entered claimed
@@ -69,5 +69,5 @@ chip_was_proven kept old c chosen point (Shared nonce shared same) proven reacti
       asked = (rw (body, at, ← is, same) refl, refl, (rw (body, at, ← is, same) refl, refl, rw (body, at, ← is, same) refl));
       ended = rw (body, at, ← is, same) (outcome_is 0 _ reaction said rule (answered ∙ ap (λ (p : PlainProven). data_alone (proof_data p)) gave ∙ ap (λ (q : List ℕ). data_alone (proof_data (proven_by chosen.protocol q nonce shared))) is));
       left = left ∙ ap (λ (p : PlainProven). record (without_run old) { chip_proven = true; channel = Some (channel_after 0 (chip_keys p)) }) gave
-          ∙ due kept.fields reaction.rule.0 AuthenticateChip c given old rule;
+          ∙ due kept.fields reaction.rule AuthenticateChip c given old rule;
     }

@@ -20,11 +20,9 @@ use Rattle.eid_model.specs.Ledger.{account, kept, pending, state_of, MayHold}
 use Rattle.eid_model.specs.Rules.{Incoming, plain_of}
 use Rattle.eid_model.proofs.Books.{on_pends_nothing, stood_silent, stood_off, stood_cut, stood_on}
 use Rattle.eid_model.proofs.Ledgers.{nothing_committed}
-use Rattle.eid_chip.specs.declared.reaction.Reaction.{Reaction}
-use Rattle.eid_chip.specs.declared.reaction.Ending.{Ending}
-use Rattle.eid_chip.specs.declared.reaction.Ending.TheVariants as ended
+use Rattle.eid_chip.specs.Endings.{Ended, Reacted}
+use Rattle.eid_chip.specs.Endings as ended
 use Rattle.eid_chip.specs.declared.running.Running.{Running}
-use Rattle.eid_chip.specs.declared.session.Session.{Session}
 use Rattle.eid_chip.specs.Held.{held}
 use Rattle.eid_chip.specs.Worlds.{World}
 use Rattle.eid_chip.specs.States.{RunningView, ChipView, chained, running_view, state}
@@ -60,11 +58,11 @@ kept_channel (Some ch) opened rule = by (rule == 2) (rule == 3) where
   by false false = refl
 
 -- a chip with power that answered makes a legal moment, and fits the journal with it
-pub chip_answers : (old : Scene) (running : RunningView) (after : Option RunningView) (new_state : State) (bytes : List ℕ) (incoming : Incoming) (plain : Option PlainCommand) (asks : List Ask) (r : Reaction) (finished : ℕ) (reply : PlainReply) (sent : List ℕ) (fragments : Option OpenChain) (was now : World)
+pub chip_answers : (old : Scene) (running : RunningView) (after : Option RunningView) (new_state : State) (bytes : List ℕ) (incoming : Incoming) (plain : Option PlainCommand) (asks : List Ask) (r : Reacted) (finished : ℕ) (reply : PlainReply) (sent : List ℕ) (fragments : Option OpenChain) (was now : World)
     → old.chip.running ≡ Some running → was.cells ≡ old.cells → after ≡ Some (record { store = now.store; state = new_state }) → new_state ≡ chained fragments (state_left r running.state.channel)
-    → sent ≡ sent_in running.state.channel r.rule.0 reply → IsReadAs running.state.channel bytes incoming → plain ≡ plain_of incoming
+    → sent ≡ sent_in running.state.channel r.rule reply → IsReadAs running.state.channel bytes incoming → plain ≡ plain_of incoming
     → IsEndedByRules running.state incoming asks (ended.Answered r finished) reply fragments was now
-    → Follows old (record { chip = record { running = after }; device = now.device; cells = now.cells }) (moment_of bytes asks (Answer plain finished r.rule.0 reply sent))
+    → Follows old (record { chip = record { running = after }; device = now.device; cells = now.cells }) (moment_of bytes asks (Answer plain finished r.rule reply sent))
 chip_answers old running after new_state bytes incoming plain asks r finished reply sent fragments was now alive cells_are running_is left_is written reads plain_is did opening before fits =
     let power : on before ≡ true = sym fits.powered ∙ ap is_some alive in
     let same_state : running.state ≡ state_of opening before = subst (λ (l : Option RunningView). HasState l opening before) alive fits.state in
@@ -72,9 +70,9 @@ chip_answers old running after new_state bytes incoming plain asks r finished re
     let standing : stands old.cells ≡ Some (kept opening before) = subst (λ (p : Option PlainEffect). MayHold p (kept opening before) (stands old.cells)) none fits.standing in
     let is : held was.cells ≡ kept opening before = held_is was.cells (kept opening before) (ap stands cells_are ∙ standing) in
     let done = responded running.state opening before bytes incoming asks r finished reply fragments was now power same_state is reads did in
-    let same : answered running.state.channel bytes incoming asks finished (outcome_seen r reply) ≡ moment_of bytes asks (Answer plain finished r.rule.0 reply sent) =
-    ap (λ (p : Option PlainCommand). moment_of bytes asks (Answer p finished r.rule.0 reply (sent_in running.state.channel r.rule.0 reply))) (sym plain_is)
-    ∙ ap (λ (s : List ℕ). moment_of bytes asks (Answer plain finished r.rule.0 reply s)) (sym written) in
+    let same : answered running.state.channel bytes incoming asks finished (outcome_seen r reply) ≡ moment_of bytes asks (Answer plain finished r.rule reply sent) =
+    ap (λ (p : Option PlainCommand). moment_of bytes asks (Answer p finished r.rule reply (sent_in running.state.channel r.rule reply))) (sym plain_is)
+    ∙ ap (λ (s : List ℕ). moment_of bytes asks (Answer plain finished r.rule reply s)) (sym written) in
     subst (λ (m : PlainMoment). IsLegalMoment opening before m × Fits (record { chip = record { running = after }; device = now.device; cells = now.cells }) opening (m ∷ before)) same (
       done.0,
       record {
@@ -180,35 +178,34 @@ new_fits s opening off standing = record {
 -- ---- bytes that were handled
 
 -- a chip with power answered
-pub handles_answer : (chip : ChipView) (fragments left : Option OpenChain) (running next : Running) (bytes : List ℕ) (plain : Option PlainCommand) (ending : Ending) (r : Reaction) (finished : ℕ) (reply : PlainReply) (sent : List ℕ) (was now : World)
+pub handles_answer : (chip : ChipView) (fragments left : Option OpenChain) (running : Running) (channel : Option ChannelState) (bytes : List ℕ) (plain : Option PlainCommand) (ending : Ended) (r : Reacted) (finished : ℕ) (reply : PlainReply) (sent : List ℕ) (was now : World)
     → chip.running ≡ Some (running_view fragments running) → Responds running.session running.channel fragments bytes plain ending reply left was now → ending ≡ ended.Answered r finished
-    → next.session ≡ r.session → next.store ≡ now.store → next.channel ≡ channel_left r running.channel → sent ≡ sent_in running.channel r.rule.0 reply
-    → Handles was.copro now.copro (scene chip was.device was.cells) (scene (record { running = Some (running_view left next) }) now.device now.cells) bytes (Answer plain finished r.rule.0 reply sent)
-handles_answer chip fragments left running next bytes plain ending r finished reply sent was now alive responds ends session store channel written =
-    let did = subst (λ (e : Ending). IsEndedByRules (chained fragments (state running.session running.channel)) responds.incoming responds.asks e reply left was now) ends responds.ended in
-    let next_state : State = chained left (state next.session next.channel) in
-    let left_is : next_state ≡ chained left (state_left r running.channel) =
-    ap (λ (s : Session). chained left (state s next.channel)) session ∙ ap (λ (c : Option ChannelState). chained left (state r.session c)) channel in
+    → channel ≡ channel_left r running.channel → sent ≡ sent_in running.channel r.rule reply
+    → Handles was.copro now.copro (scene chip was.device was.cells) (scene (record { running = Some (record { store = now.store; state = chained left (state r.session channel) }) }) now.device now.cells) bytes (Answer plain finished r.rule reply sent)
+handles_answer chip fragments left running channel bytes plain ending r finished reply sent was now alive responds ends is written =
+    let did = subst (λ (e : Ended). IsEndedByRules (chained fragments (state running.session running.channel)) responds.incoming responds.asks e reply left was now) ends responds.ended in
+    let next_state : State = chained left (state r.session channel) in
+    let left_is : next_state ≡ chained left (state_left r running.channel) = ap (λ (c : Option ChannelState). chained left (state r.session c)) is in
     record {
       asks = responds.asks;
       were_asked = responds.were_asked;
       unasked = λ silent. absurd (cc);
       follows =
-          chip_answers (scene chip was.device was.cells) (running_view fragments running) (Some (running_view left next)) next_state bytes responds.incoming plain responds.asks r finished reply sent left was now
-          alive refl (ap (λ (s : Store). Some (record { store = s; state = next_state })) store) left_is written responds.reads responds.is_plain did;
+          chip_answers (scene chip was.device was.cells) (running_view fragments running) (Some (record { store = now.store; state = next_state })) next_state bytes responds.incoming plain responds.asks r finished reply sent left was now
+          alive refl refl left_is written responds.reads responds.is_plain did;
       silent = rw alive refl;
       running = refl;
       device = did.leaves.2;
       layout = responds.layout;
-      sound = rw store did.leaves.0;
+      sound = did.leaves.0;
     }
 
 -- a chip with power was lost in a commit
-pub handles_loss : (chip : ChipView) (fragments left : Option OpenChain) (running : Running) (after : Option RunningView) (bytes : List ℕ) (plain : Option PlainCommand) (ending : Ending) (finished : ℕ) (reply : PlainReply) (was now : World)
+pub handles_loss : (chip : ChipView) (fragments left : Option OpenChain) (running : Running) (after : Option RunningView) (bytes : List ℕ) (plain : Option PlainCommand) (ending : Ended) (finished : ℕ) (reply : PlainReply) (was now : World)
     → chip.running ≡ Some (running_view fragments running) → Responds running.session running.channel fragments bytes plain ending reply left was now → ending ≡ ended.Lost finished → after ≡ None
     → Handles was.copro now.copro (scene chip was.device was.cells) (scene (record { running = after }) now.device now.cells) bytes (Loss plain finished)
 handles_loss chip fragments left running after bytes plain ending finished reply was now alive responds ends off =
-    let did = subst (λ (e : Ending). IsEndedByRules (chained fragments (state running.session running.channel)) responds.incoming responds.asks e reply left was now) ends responds.ended in
+    let did = subst (λ (e : Ended). IsEndedByRules (chained fragments (state running.session running.channel)) responds.incoming responds.asks e reply left was now) ends responds.ended in
     record {
       asks = responds.asks;
       were_asked = responds.were_asked;
@@ -238,6 +235,9 @@ handles_silence chip after bytes copro device cells off still = record {
   sound = rw still tt;
 }
 
--- the same with other words for what came
-pub handles_same : (before after : CoproSeen) (old new : Scene) (bytes : List ℕ) (one other : Came) → one ≡ other → Handles before after old new bytes one → Handles before after old new bytes other
-handles_same before after old new bytes one other same handles = subst (λ (c : Came). Handles before after old new bytes c) same handles
+-- the same of chips that are the same
+pub handles_same : (before after : CoproSeen) (chip old new behind : ChipView) (device now : Device) (cells cells_now : List ℕ) (bytes : List ℕ) (came : Came) → chip ≡ old → behind ≡ new
+    → Handles before after (scene chip device cells) (scene behind now cells_now) bytes came → Handles before after (scene old device cells) (scene new now cells_now) bytes came
+handles_same before after chip old new behind device now cells cells_now bytes came same kept handles =
+    subst (λ (v : ChipView). Handles before after (scene v device cells) (scene new now cells_now) bytes came) same
+    (subst (λ (v : ChipView). Handles before after (scene chip device cells) (scene v now cells_now) bytes came) kept handles)

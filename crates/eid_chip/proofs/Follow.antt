@@ -32,8 +32,7 @@ use Rattle.eid_model.proofs.Ledgers.{AreEntered}
 use Rattle.eid_model.proofs.Books.{due_entered, due_incoming, stood_answered, stood_lost}
 use Rattle.eid_chip.specs.Transitions.{chain_behind, context_in, without_run, state_answered, state_carried_out, state_later, state_piece, state_refused, two_messages_later}
 use Rattle.eid_apdu.specs.Answer.{PlainReply}
-use Rattle.eid_chip.specs.declared.reaction.Reaction.{Reaction}
-use Rattle.eid_chip.specs.declared.reaction.Ending.TheVariants.{Answered, Lost}
+use Rattle.eid_chip.specs.Endings.{Answered, Lost, Reacted}
 use Rattle.eid_chip.specs.Held.{held}
 use Rattle.eid_chip.specs.States.{chained}
 use Rattle.eid_chip.specs.Worlds.{World}
@@ -343,7 +342,7 @@ same_situation f seen full old left incoming answers same state =
 
 -- A chip with power whose command was answered makes a legal moment, after which the chip is on, its state is what the
 -- moments leave, and the cells hold the record kept.
-pub responded : (old : State) (opening : FullRecord) (before : List PlainMoment) (bytes : List ℕ) (incoming : Incoming) (asks : List Ask) (r : Reaction) (finished : ℕ) (reply : PlainReply) (left : Option OpenChain) (was now : World)
+pub responded : (old : State) (opening : FullRecord) (before : List PlainMoment) (bytes : List ℕ) (incoming : Incoming) (asks : List Ask) (r : Reacted) (finished : ℕ) (reply : PlainReply) (left : Option OpenChain) (was now : World)
     → on before ≡ true → old ≡ state_of opening before → held was.cells ≡ kept opening before → IsReadAs old.channel bytes incoming → IsEndedByRules old incoming asks (Answered r finished) reply left was now
     → IsHandled opening before bytes (answered old.channel bytes incoming asks finished (outcome_seen r reply))
     × (on (answered old.channel bytes incoming asks finished (outcome_seen r reply) ∷ before) ≡ true)
@@ -358,10 +357,10 @@ responded old opening before bytes incoming asks r finished reply left was now p
     same_situation due (held was.cells) full old (state_of opening before) incoming (answers_of asks) same is in
     let ends : outcome_seen r reply ≡ outcome (situation_after opening before incoming (answers_of asks)) =
     sym ended.ended.1 ∙ same_situation outcome (held was.cells) full old (state_of opening before) incoming (answers_of asks) same is in
-    let next_state : state_then full.fields m (live before) (accepted opening before) (terminal opening before) ≡ state_answered (held was.cells).fields r.rule.0 (kind_incoming old incoming) (command_of incoming) (answers_of asks) old =
+    let next_state : state_then full.fields m (live before) (accepted opening before) (terminal opening before) ≡ state_answered (held was.cells).fields r.rule (kind_incoming old incoming) (command_of incoming) (answers_of asks) old =
     state_more full.fields (accepted opening before) (terminal opening before) old.channel bytes incoming asks finished (outcome_seen r reply) (live before)
-    ∙ ap (λ (s : State). state_answered full.fields r.rule.0 (kind_incoming s incoming) (command_of incoming) (answers_of asks) s) (sym is)
-    ∙ ap (λ (k : FullRecord). state_answered k.fields r.rule.0 (kind_incoming old incoming) (command_of incoming) (answers_of asks) old) (sym same) in
+    ∙ ap (λ (s : State). state_answered full.fields r.rule (kind_incoming s incoming) (command_of incoming) (answers_of asks) s) (sym is)
+    ∙ ap (λ (k : FullRecord). state_answered k.fields r.rule (kind_incoming old incoming) (command_of incoming) (answers_of asks) old) (sym same) in
     let made : m ≡ answered (channel (live before)) bytes incoming asks (length (due (situation_after opening before incoming (answers_of asks)))) (outcome (situation_after opening before incoming (answers_of asks))) =
     ap (λ (n : ℕ). answered old.channel bytes incoming asks n (outcome_seen r reply)) (ended.ended.0 ∙ ap length due_is)
     ∙ ap (λ (o : Outcome). answered old.channel bytes incoming asks (length (due (situation_after opening before incoming (answers_of asks)))) o) ends

@@ -24,9 +24,7 @@ use Rattle.eid_model.specs.Answers.{Outcome, outcome, outcome_of, outcome_by, qu
 use Rattle.eid_model.specs.Legal.{AreAsked, IsReadAs}
 use Rattle.eid_model.proofs.Books.{nothing_due_by}
 use Rattle.eid_chip.specs.Transitions.{state_answered, state_by_kind, state_carried_out, state_later, state_piece, state_refused}
-use Rattle.eid_chip.specs.declared.reaction.Reaction.{Reaction}
-use Rattle.eid_chip.specs.declared.reaction.Ending.{Ending}
-use Rattle.eid_chip.specs.declared.reaction.Ending.TheVariants.{Answered, Lost}
+use Rattle.eid_chip.specs.Endings.{Answered, Ended, Lost, Reacted}
 use Rattle.eid_chip.specs.declared.session.Session.{Session}
 use Rattle.eid_chip.specs.Worlds.{World, world, Leaves}
 use Rattle.eid_chip.specs.Held.{held}
@@ -149,7 +147,7 @@ command_rule kept old c answers o is =
     ap (λ (x : Outcome). is_on_objects x.rule) (sym is) ∙ ap (λ (f : Option RuleRow). is_on_objects (outcome_by f s).rule) found
     ∙ others_fail later s (refl, (refl, (refl, (refl, (refl, (refl, (refl, (refl, (refl, (refl, (refl, (refl, (refl, (refl, (refl, (refl, (refl, (refl, (refl, (refl, (refl, (refl, (refl, (refl, (refl, (refl, (refl, (refl, (refl, (refl, (refl, (refl, (refl, (refl, (refl, (refl, (refl, (refl, (refl, (refl, (refl, (refl, (refl, (refl, (refl, (refl, _))))))))))))))))))))))))))))))))))))))))))))))
 
-pub command_answered : (old : State) (c : PlainCommand) (asks : List Ask) (ending : Ending) (reply : PlainReply) (left : Option OpenChain) (before after : World) → IsEndedByRules old (OfCommand c) asks ending reply left before after → is_on_objects (rule_of ending) ≡ false
+pub command_answered : (old : State) (c : PlainCommand) (asks : List Ask) (ending : Ended) (reply : PlainReply) (left : Option OpenChain) (before after : World) → IsEndedByRules old (OfCommand c) asks ending reply left before after → is_on_objects (rule_of ending) ≡ false
 command_answered old c asks (Answered r finished) reply left before after did = command_rule (held before.cells) old c (answers_of asks) (outcome_seen r reply) did.ended.1
 command_answered old c asks (Lost finished) reply left before after did = refl
 
@@ -170,11 +168,11 @@ refused_state kept rule None c answers old e = rw e refl
 refused_state kept rule (Some kind) c answers old e = refused_by_kind kept rule kind (request old.chaining c) answers (unchained old) e
 
 -- a refusal puts no question, and is the answer
-pub refused_answers : (rows more most later : List RuleRow) (kept : FullRecord) (old : State) (incoming : Incoming) (refused : PlainRefusal) (r : Reaction) (reply : PlainReply) → refusal_by rows (situation kept old incoming []) ≡ Some refused
+pub refused_answers : (rows more most later : List RuleRow) (kept : FullRecord) (old : State) (incoming : Incoming) (refused : PlainRefusal) (r : Reacted) (reply : PlainReply) → refusal_by rows (situation kept old incoming []) ≡ Some refused
     → question (situation kept old incoming []) ≡ (if is_none (first_failed (rows ++ more) (situation kept old incoming [])) then question_of (situation kept old incoming []).kind (situation kept old incoming []) else None)
     → due (situation kept old incoming []) ≡ (if is_none (first_failed (rows ++ most) (situation kept old incoming [])) then to_commit (situation kept old incoming []).kind (situation kept old incoming []) else [])
     → outcome (situation kept old incoming []) ≡ outcome_by (first_failed (rows ++ later) (situation kept old incoming [])) (situation kept old incoming [])
-    → (refused.rule == 0) ≡ false → r.rule.0 ≡ refused.rule → reply ≡ status_alone refused.status
+    → (refused.rule == 0) ≡ false → r.rule ≡ refused.rule → reply ≡ status_alone refused.status
     → state_left r old.channel ≡ state_due refused.rule (state_refused old) → IsAnsweredByRules kept old incoming [] r reply
 refused_answers rows more most later kept old incoming refused r reply fails asks dues ends is_one rule answered left =
     let s = situation kept old incoming [] in
@@ -184,12 +182,12 @@ refused_answers rows more most later kept old incoming refused r reply fails ask
       ended = ends ∙ failed rows later s refused fails ∙ same;
       undue = dues ∙ if_not (is_none (first_failed (rows ++ most) s)) (to_commit s.kind s) [] (some_failed rows most s refused fails);
       left = left ∙ ap (λ (n : ℕ). state_due n (state_refused old)) (sym rule)
-          ∙ ap (λ (x : State). state_due r.rule.0 x) (sym (refused_state kept.fields r.rule.0 (kind_incoming old incoming) (command_of incoming) [] old (ap (λ (n : ℕ). n == 0) rule ∙ is_one)));
+          ∙ ap (λ (x : State). state_due r.rule x) (sym (refused_state kept.fields r.rule (kind_incoming old incoming) (command_of incoming) [] old (ap (λ (n : ℕ). n == 0) rule ∙ is_one)));
     }
 
 -- a command whose class, instruction or parameters are refused
-pub name_refused : (kept : FullRecord) (old : State) (c : PlainCommand) (refused : PlainRefusal) (r : Reaction) (reply : PlainReply) → refusal_by naming_rules (with_command kept old c []) ≡ Some refused
-    → (refused.rule == 0) ≡ false → r.rule.0 ≡ refused.rule → reply ≡ status_alone refused.status
+pub name_refused : (kept : FullRecord) (old : State) (c : PlainCommand) (refused : PlainRefusal) (r : Reacted) (reply : PlainReply) → refusal_by naming_rules (with_command kept old c []) ≡ Some refused
+    → (refused.rule == 0) ≡ false → r.rule ≡ refused.rule → reply ≡ status_alone refused.status
     → state_left r old.channel ≡ state_due refused.rule (state_refused old) → IsAnsweredByRules kept old (OfCommand c) [] r reply
 unfolding question outcome due
 name_refused kept old c refused r reply fails is_one rule answered left =
@@ -201,8 +199,8 @@ name_refused kept old c refused r reply fails is_one rule answered left =
     is_one rule answered left
 
 -- a command of some kind in a request that is refused
-pub request_refused : (kept : FullRecord) (old : State) (c : PlainCommand) (refused : PlainRefusal) (r : Reaction) (reply : PlainReply) → refusal_by naming_rules (with_command kept old c []) ≡ None → refusal_by request_rules (with_command kept old c []) ≡ Some refused
-    → (refused.rule == 0) ≡ false → r.rule.0 ≡ refused.rule → reply ≡ status_alone refused.status
+pub request_refused : (kept : FullRecord) (old : State) (c : PlainCommand) (refused : PlainRefusal) (r : Reacted) (reply : PlainReply) → refusal_by naming_rules (with_command kept old c []) ≡ None → refusal_by request_rules (with_command kept old c []) ≡ Some refused
+    → (refused.rule == 0) ≡ false → r.rule ≡ refused.rule → reply ≡ status_alone refused.status
     → state_left r old.channel ≡ state_due refused.rule (state_refused old) → IsAnsweredByRules kept old (OfCommand c) [] r reply
 unfolding question outcome due
 request_refused kept old c refused r reply names fails is_one rule answered left =
@@ -217,8 +215,8 @@ request_refused kept old c refused r reply names fails is_one rule answered left
     is_one rule answered left
 
 -- bytes that are no command, or whose objects of secure messaging are missing or wrong
-pub transport_refused : (kept : FullRecord) (old : State) (incoming : Incoming) (refused : PlainRefusal) (r : Reaction) (reply : PlainReply) → refusal_by transport_rules (situation kept old incoming []) ≡ Some refused
-    → (refused.rule == 0) ≡ false → r.rule.0 ≡ refused.rule → reply ≡ status_alone refused.status
+pub transport_refused : (kept : FullRecord) (old : State) (incoming : Incoming) (refused : PlainRefusal) (r : Reacted) (reply : PlainReply) → refusal_by transport_rules (situation kept old incoming []) ≡ Some refused
+    → (refused.rule == 0) ≡ false → r.rule ≡ refused.rule → reply ≡ status_alone refused.status
     → state_left r old.channel ≡ state_due refused.rule (state_refused old) → IsAnsweredByRules kept old incoming [] r reply
 unfolding question outcome due
 transport_refused kept old incoming refused r reply fails is_one rule answered left =
@@ -254,7 +252,7 @@ kind_due kept old c kind answers ends names requests =
     ∙ ap (λ (s : Situation). due_by kind_rules s) (known_so kept old c kind answers ends)
 
 -- the last command of a request of a known kind, which can be answered, ends by the rules of its kind
-pub ended_by_rules : (old : State) (c : PlainCommand) (kind : Kind) (asks : List Ask) (ending : Ending) (reply : PlainReply) (before after : World) → Ends old c kind
+pub ended_by_rules : (old : State) (c : PlainCommand) (kind : Kind) (asks : List Ask) (ending : Ended) (reply : PlainReply) (before after : World) → Ends old c kind
     → ((answers : List Answer) → refusal_by naming_rules (with_command (held before.cells) old c answers) ≡ None)
     → ((answers : List Answer) → refusal_by request_rules (with_command (held before.cells) old c answers) ≡ None)
     → IsEndedByKind kind (unchained old) (request old.chaining c) asks ending reply before after → IsEndedByRules old (OfCommand c) asks ending reply None before after
@@ -273,14 +271,14 @@ ended_by_rules old c kind asks ending reply before after ends names requests did
     }
 
 -- a command that commits nothing leaves all but the coprocessor as it was
-pub leaves_all : (effects : List PlainEffect) (r : Reaction) (before after : CoproSeen) (store : Store) (device : Device) (cells : List ℕ) → effects ≡ [] → stored.Fits store device cells
+pub leaves_all : (effects : List PlainEffect) (r : Reacted) (before after : CoproSeen) (store : Store) (device : Device) (cells : List ℕ) → effects ≡ [] → stored.Fits store device cells
     → Leaves effects (held cells) (Answered r 0) (world before store device cells) (world after store device cells)
 leaves_all effects r before after store device cells none fits =
     subst (λ (l : List PlainEffect). Leaves l (held cells) (Answered r 0) (world before store device cells) (world after store device cells)) (sym none)
     (fits, held_stands store device cells fits, unwritten device)
 
 -- a command of a known kind of which nothing is due
-pub ended_uncommitted : (kind : Kind) (old : State) (c : PlainCommand) (asks : List Ask) (r : Reaction) (reply : PlainReply) (before after : CoproSeen) (store : Store) (device : Device) (cells : List ℕ) → stored.Fits store device cells
+pub ended_uncommitted : (kind : Kind) (old : State) (c : PlainCommand) (asks : List Ask) (r : Reacted) (reply : PlainReply) (before after : CoproSeen) (store : Store) (device : Device) (cells : List ℕ) → stored.Fits store device cells
     → due_by kind_rules (known kind (held cells) old c (answers_of asks)) ≡ [] → IsAnsweredByKind kind (held cells) old c asks r reply
     → IsEndedByKind kind old c asks (Answered r 0) reply (world before store device cells) (world after store device cells)
 ended_uncommitted kind old c asks r reply before after store device cells fits none told = record {
@@ -291,12 +289,12 @@ ended_uncommitted kind old c asks r reply before after store device cells fits n
 }
 
 -- a command of a kind that never commits
-pub settled : (kind is : Kind) (session : Session) (c : PlainCommand) (ending : Ending) (r : Reaction) (reply : PlainReply) (before after : CoproSeen) (store : Store) (device : Device) (cells : List ℕ)
+pub settled : (kind is : Kind) (session : Session) (c : PlainCommand) (ending : Ended) (r : Reacted) (reply : PlainReply) (before after : CoproSeen) (store : Store) (device : Device) (cells : List ℕ)
     → kind ≡ is → ((s : Situation) → to_commit (Some is) s ≡ []) → stored.Fits store device cells → ending ≡ Answered r 0
     → Stepped before after is (held cells) session c r reply → Performed kind session c ending reply (world before store device cells) (world after store device cells)
 settled kind is session c ending r reply before after store device cells same commits fits ends stepped =
     subst (λ (k : Kind). Performed k session c ending reply (world before store device cells) (world after store device cells)) (sym same)
-    (subst (λ (e : Ending). Performed is session c e reply (world before store device cells) (world after store device cells)) (sym ends) (record {
+    (subst (λ (e : Ended). Performed is session c e reply (world before store device cells) (world after store device cells)) (sym ends) (record {
       asks = stepped.asks;
       were_asked = stepped.were_asked;
       ended = λ channel.
@@ -306,11 +304,11 @@ settled kind is session c ending r reply before after store device cells same co
     }))
 
 -- a command that puts no question, and of which nothing is due
-pub performed_unasked : (kind : Kind) (session : Session) (c : PlainCommand) (ending : Ending) (r : Reaction) (reply : PlainReply) (copro : CoproSeen) (store : Store) (device : Device) (cells : List ℕ) → stored.Fits store device cells → ending ≡ Answered r 0
+pub performed_unasked : (kind : Kind) (session : Session) (c : PlainCommand) (ending : Ended) (r : Reacted) (reply : PlainReply) (copro : CoproSeen) (store : Store) (device : Device) (cells : List ℕ) → stored.Fits store device cells → ending ≡ Answered r 0
     → ((channel : Option ChannelState) → (due_by kind_rules (known kind (held cells) (state session channel) c []) ≡ []) × IsAnsweredByKind kind (held cells) (state session channel) c [] r reply)
     → Performed kind session c ending reply (world copro store device cells) (world copro store device cells)
 performed_unasked kind session c ending r reply copro store device cells fits ends told =
-    subst (λ (e : Ending). Performed kind session c e reply (world copro store device cells) (world copro store device cells)) (sym ends) (record {
+    subst (λ (e : Ended). Performed kind session c e reply (world copro store device cells) (world copro store device cells)) (sym ends) (record {
       asks = [];
       were_asked = not_asked copro;
       ended = λ channel. let said = told channel in ended_uncommitted kind (state session channel) c [] r reply copro copro store device cells fits said.0 said.1;
@@ -318,8 +316,8 @@ performed_unasked kind session c ending r reply copro store device cells fits en
     })
 
 -- a command that is refused by a rule of its kind
-pub kind_refused : (kind : Kind) (kept : FullRecord) (old : State) (c : PlainCommand) (refused : PlainRefusal) (r : Reaction) (reply : PlainReply) → refusal_by kind_rules (known kind kept old c []) ≡ Some refused
-    → (refused.rule == 0) ≡ false → r.rule.0 ≡ refused.rule → reply ≡ status_alone refused.status
+pub kind_refused : (kind : Kind) (kept : FullRecord) (old : State) (c : PlainCommand) (refused : PlainRefusal) (r : Reacted) (reply : PlainReply) → refusal_by kind_rules (known kind kept old c []) ≡ Some refused
+    → (refused.rule == 0) ≡ false → r.rule ≡ refused.rule → reply ≡ status_alone refused.status
     → state_left r old.channel ≡ state_due refused.rule (state_refused old)
     → (due_by kind_rules (known kind kept old c []) ≡ []) × IsAnsweredByKind kind kept old c [] r reply
 kind_refused kind kept old c refused r reply fails is_one rule answered left =
@@ -330,21 +328,21 @@ kind_refused kind kept old c refused r reply fails is_one rule answered left =
         asked = if_not (is_none (first_failed (kind_rules ++ answer_rules) s)) (question_of s.kind s) None (some_failed kind_rules answer_rules s refused fails);
         ended = failed kind_rules (answer_rules ++ commit_rules ++ proof_rules) s refused fails ∙ same;
         left = left ∙ ap (λ (n : ℕ). state_due n (state_refused old)) (sym rule)
-            ∙ ap (λ (x : State). state_due r.rule.0 x) (sym (refused_by_kind kept.fields r.rule.0 kind c [] old (ap (λ (n : ℕ). n == 0) rule ∙ is_one)));
+            ∙ ap (λ (x : State). state_due r.rule x) (sym (refused_by_kind kept.fields r.rule kind c [] old (ap (λ (n : ℕ). n == 0) rule ∙ is_one)));
       },
     )
 
 -- and that puts no question and commits nothing
-pub refused_unasked : (kind : Kind) (session : Session) (c : PlainCommand) (refused : PlainRefusal) (ending : Ending) (r : Reaction) (reply : PlainReply) (copro : CoproSeen) (store : Store) (device : Device) (cells : List ℕ) → stored.Fits store device cells → ending ≡ Answered r 0
+pub refused_unasked : (kind : Kind) (session : Session) (c : PlainCommand) (refused : PlainRefusal) (ending : Ended) (r : Reacted) (reply : PlainReply) (copro : CoproSeen) (store : Store) (device : Device) (cells : List ℕ) → stored.Fits store device cells → ending ≡ Answered r 0
     → ((channel : Option ChannelState) → (refusal_by kind_rules (known kind (held cells) (state session channel) c []) ≡ Some refused) × ((refused.rule == 0) ≡ false))
-    → r.rule.0 ≡ refused.rule → reply ≡ status_alone refused.status → ((channel : Option ChannelState) → state_left r channel ≡ state_due refused.rule (state_refused (state session channel)))
+    → r.rule ≡ refused.rule → reply ≡ status_alone refused.status → ((channel : Option ChannelState) → state_left r channel ≡ state_due refused.rule (state_refused (state session channel)))
     → Performed kind session c ending reply (world copro store device cells) (world copro store device cells)
 refused_unasked kind session c refused ending r reply copro store device cells fits ends tells rule answered left =
     performed_unasked kind session c ending r reply copro store device cells fits ends (λ channel. let told = tells channel in
     kind_refused kind (held cells) (state session channel) c refused r reply told.0 told.1 rule answered (left channel))
 
 -- a refusal before the kind is known
-pub refused_ends : (old : State) (incoming : Incoming) (r : Reaction) (reply : PlainReply) (copro : CoproSeen) (store : Store) (device : Device) (cells : List ℕ) → stored.Fits store device cells
+pub refused_ends : (old : State) (incoming : Incoming) (r : Reacted) (reply : PlainReply) (copro : CoproSeen) (store : Store) (device : Device) (cells : List ℕ) → stored.Fits store device cells
     → IsAnsweredByRules (held cells) old incoming [] r reply → IsEndedByRules old incoming [] (Answered r 0) reply None (world copro store device cells) (world copro store device cells)
 refused_ends old incoming r reply copro store device cells fits answers =
     record {
@@ -355,7 +353,7 @@ refused_ends old incoming r reply copro store device cells fits answers =
     }
 
 -- and so a command that is refused; no chain is open behind it
-pub refused_reacts : (session : Session) (fragments : Option OpenChain) (c : PlainCommand) (ending : Ending) (r : Reaction) (reply : PlainReply) (left : Option OpenChain) (copro : CoproSeen) (store : Store) (device : Device) (cells : List ℕ)
+pub refused_reacts : (session : Session) (fragments : Option OpenChain) (c : PlainCommand) (ending : Ended) (r : Reacted) (reply : PlainReply) (left : Option OpenChain) (copro : CoproSeen) (store : Store) (device : Device) (cells : List ℕ)
     → stored.Fits store device cells → ending ≡ Answered r 0 → left ≡ None
     → ((channel : Option ChannelState) → IsAnsweredByRules (held cells) (chained fragments (state session channel)) (OfCommand c) [] r reply)
     → Reacts session fragments c ending reply left (world copro store device cells) (world copro store device cells)
@@ -363,14 +361,14 @@ refused_reacts session fragments c ending r reply left copro store device cells 
   asks = [];
   were_asked = not_asked copro;
   ended = λ channel. let old : State = chained fragments (state session channel) in
-      subst (λ (e : Ending). IsEndedByRules old (OfCommand c) [] e reply left (world copro store device cells) (world copro store device cells)) (sym ends)
+      subst (λ (e : Ended). IsEndedByRules old (OfCommand c) [] e reply left (world copro store device cells) (world copro store device cells)) (sym ends)
       (subst (λ (o : Option OpenChain). IsEndedByRules old (OfCommand c) [] (Answered r 0) reply o (world copro store device cells) (world copro store device cells)) (sym closed)
       (refused_ends old (OfCommand c) r reply copro store device cells fits (answers channel)));
   layout = refl;
 }
 
 -- and so a response to bytes of which no command was incoming
-pub refused_responds : (incoming : Incoming) (session : Session) (channel : Option ChannelState) (fragments : Option OpenChain) (bytes : List ℕ) (plain : Option PlainCommand) (ending : Ending) (r : Reaction) (reply : PlainReply) (left : Option OpenChain) (copro : CoproSeen) (store : Store) (device : Device) (cells : List ℕ)
+pub refused_responds : (incoming : Incoming) (session : Session) (channel : Option ChannelState) (fragments : Option OpenChain) (bytes : List ℕ) (plain : Option PlainCommand) (ending : Ended) (r : Reacted) (reply : PlainReply) (left : Option OpenChain) (copro : CoproSeen) (store : Store) (device : Device) (cells : List ℕ)
     → stored.Fits store device cells → IsReadAs channel bytes incoming → plain_of incoming ≡ None → plain ≡ None → ending ≡ Answered r 0 → left ≡ None
     → IsAnsweredByRules (held cells) (chained fragments (state session channel)) incoming [] r reply
     → Responds session channel fragments bytes plain ending reply left (world copro store device cells) (world copro store device cells)
@@ -382,7 +380,7 @@ refused_responds incoming session channel fragments bytes plain ending r reply l
       is_plain = is ∙ sym none;
       asks = [];
       were_asked = not_asked copro;
-      ended = subst (λ (e : Ending). IsEndedByRules old incoming [] e reply left (world copro store device cells) (world copro store device cells)) (sym ends)
+      ended = subst (λ (e : Ended). IsEndedByRules old incoming [] e reply left (world copro store device cells) (world copro store device cells)) (sym ends)
           (subst (λ (o : Option OpenChain). IsEndedByRules old incoming [] (Answered r 0) reply o (world copro store device cells) (world copro store device cells)) (sym closed)
           (refused_ends old incoming r reply copro store device cells fits answers));
       layout = refl;
@@ -391,10 +389,10 @@ refused_responds incoming session channel fragments bytes plain ending r reply l
 -- ---- requests
 
 -- a command of some kind in a request that is refused
-pub request_reacts : (session : Session) (fragments : Option OpenChain) (c : PlainCommand) (refused : PlainRefusal) (ending : Ending) (r : Reaction) (reply : PlainReply) (left : Option OpenChain) (copro : CoproSeen) (store : Store) (device : Device) (cells : List ℕ)
+pub request_reacts : (session : Session) (fragments : Option OpenChain) (c : PlainCommand) (refused : PlainRefusal) (ending : Ended) (r : Reacted) (reply : PlainReply) (left : Option OpenChain) (copro : CoproSeen) (store : Store) (device : Device) (cells : List ℕ)
     → stored.Fits store device cells → ending ≡ Answered r 0 → left ≡ None → Passes c
     → ((kept : FullRecord) (old : State) → old.chaining ≡ fragments → refusal_by request_rules (with_command kept old c []) ≡ Some refused)
-    → (refused.rule == 0) ≡ false → r.rule.0 ≡ refused.rule → reply ≡ status_alone refused.status
+    → (refused.rule == 0) ≡ false → r.rule ≡ refused.rule → reply ≡ status_alone refused.status
     → ((channel : Option ChannelState) → state_left r channel ≡ state_due refused.rule (state_refused (state session channel)))
     → Reacts session fragments c ending reply left (world copro store device cells) (world copro store device cells)
 request_reacts session fragments c refused ending r reply left copro store device cells fits ends closed names fails is_one rule answered leaves =
@@ -403,15 +401,15 @@ request_reacts session fragments c refused ending r reply left copro store devic
     request_refused (held cells) old c refused r reply (names (held cells) old []) (fails (held cells) old refl) is_one rule answered (leaves channel))
 
 -- the last command of a request that can be answered ends by the rules of its kind
-pub request_answered : (session : Session) (fragments : Option OpenChain) (c whole : PlainCommand) (kind : Kind) (ending : Ending) (reply : PlainReply) (left : Option OpenChain) (before after : World)
-    → continues fragments c ≡ true → length (body_so_far fragments c.body) ≤ MAX_REQUEST → kind_named (next_of session.run) whole ≡ Some kind → Passes c
+pub request_answered : (session : Session) (fragments : Option OpenChain) (c whole : PlainCommand) (kind : Kind) (ending : Ended) (reply : PlainReply) (left : Option OpenChain) (before after : World)
+    → continues fragments c ≡ true → length (body_so_far fragments c.body) ≤ MAX_REQUEST → kind_named (next_of session) whole ≡ Some kind → Passes c
     → whole ≡ request fragments c → left ≡ None → Performed kind session whole ending reply before after → Reacts session fragments c ending reply left before after
 request_answered session fragments c whole kind ending reply left before after goes_on short named names is closed did = record {
   asks = did.asks;
   were_asked = did.were_asked;
   ended = λ channel. let old : State = chained fragments (state session channel) in
       subst (λ (o : Option OpenChain). IsEndedByRules old (OfCommand c) did.asks ending reply o before after) (sym closed)
-      (ended_by_rules old c kind did.asks ending reply before after (record { goes_on = goes_on; named = ap (kind_named (next_of session.run)) (sym is) ∙ named }) (names (held before.cells) old)
+      (ended_by_rules old c kind did.asks ending reply before after (record { goes_on = goes_on; named = ap (kind_named (next_of session)) (sym is) ∙ named }) (names (held before.cells) old)
       (λ answers. request_passes (held before.cells) old c answers goes_on short)
       (subst (λ (w : PlainCommand). IsEndedByKind kind (state session channel) w did.asks ending reply before after) is (did.ended channel)));
   layout = did.layout;
@@ -455,8 +453,8 @@ fragment_state : (kept : PlainRecord) (rule : ℕ) (kind : Option Kind) (old : S
 fragment_state kept rule kind old c left zero none is leaves = rw (zero, none, is, leaves) refl
 
 -- a fragment that is answered
-pub fragment_taken : (session : Session) (fragments : Option OpenChain) (c : PlainCommand) (ending : Ending) (r : Reaction) (reply : PlainReply) (left : Option OpenChain) (copro : CoproSeen) (store : Store) (device : Device) (cells : List ℕ)
-    → stored.Fits store device cells → ending ≡ Answered r 0 → Says fragments c More → Passes c → r.rule.0 ≡ 0 → reply ≡ status_alone 0x9000 → left ≡ chain_after fragments c More
+pub fragment_taken : (session : Session) (fragments : Option OpenChain) (c : PlainCommand) (ending : Ended) (r : Reacted) (reply : PlainReply) (left : Option OpenChain) (copro : CoproSeen) (store : Store) (device : Device) (cells : List ℕ)
+    → stored.Fits store device cells → ending ≡ Answered r 0 → Says fragments c More → Passes c → r.rule ≡ 0 → reply ≡ status_alone 0x9000 → left ≡ chain_after fragments c More
     → ((channel : Option ChannelState) → state_left r channel ≡ state_piece c (state session channel))
     → Reacts session fragments c ending reply left (world copro store device cells) (world copro store device cells)
 fragment_taken session fragments c ending r reply left copro store device cells fits ends says names rule answered leaves idle = record {
@@ -466,20 +464,20 @@ fragment_taken session fragments c ending r reply left copro store device cells 
       let old : State = chained fragments (state session channel) in
       let is : is_fragment c ≡ true = says.2 in
       let requests = request_passes (held cells) old c [] says.0 says.1 in
-      subst (λ (e : Ending). IsEndedByRules old (OfCommand c) [] e reply left (world copro store device cells) (world copro store device cells)) (sym ends) (record {
+      subst (λ (e : Ended). IsEndedByRules old (OfCommand c) [] e reply left (world copro store device cells) (world copro store device cells)) (sym ends) (record {
         asked = fragment_asks (held cells) old c is;
         ended = (
           sym (ap length (fragment_due (held cells) old c is)),
           fragment_outcome (held cells) old c is (names (held cells) old []) requests ∙ rw (rule, answered) refl,
         );
-        next = ap (λ (s : State). chained left s) (idle channel) ∙ fragment_state (held cells).fields r.rule.0 (kind_incoming old (OfCommand c)) old c left rule (rw is refl) is leaves;
+        next = ap (λ (s : State). chained left s) (idle channel) ∙ fragment_state (held cells).fields r.rule (kind_incoming old (OfCommand c)) old c left rule (rw is refl) is leaves;
         leaves = leaves_all _ r copro copro store device cells (fragment_due (held cells) old c is) fits;
       });
   layout = refl;
 }
 
 -- how a command of a known kind ended, by its questions, by what is due and by the outcome
-pub ends_so : (kind : Kind) (old : State) (c : PlainCommand) (asks : List Ask) (effects : List PlainEffect) (o : Outcome) (ending : Ending) (reply : PlainReply) (before after : World)
+pub ends_so : (kind : Kind) (old : State) (c : PlainCommand) (asks : List Ask) (effects : List PlainEffect) (o : Outcome) (ending : Ended) (reply : PlainReply) (before after : World)
     → AreAsked (λ answers. question_by kind_rules (known kind (held before.cells) old c answers)) [] asks → due_by kind_rules (known kind (held before.cells) old c (answers_of asks)) ≡ effects → outcome_of kind_rules (known kind (held before.cells) old c (answers_of asks)) ≡ o
     → IsEnding effects o ending reply → IsNext (λ rule. state_by_kind (held before.cells).fields rule kind c (answers_of asks) old) ending old.channel None → Leaves effects (held before.cells) ending before after
     → IsEndedByKind kind old c asks ending reply before after
@@ -492,6 +490,6 @@ ends_so kind old c asks effects o ending reply before after unasked due_is outco
 }
 
 -- what a fragment that is answered leaves
-pub piece_left : (session new : Session) (c : PlainCommand) (r : Reaction) (channel : Option ChannelState) → r.rule.0 ≡ 0 → r.opened ≡ None → r.session ≡ new
+pub piece_left : (session new : Session) (c : PlainCommand) (r : Reacted) (channel : Option ChannelState) → r.rule ≡ 0 → r.opened ≡ None → r.session ≡ new
     → ((ch : Option ChannelState) → state_later (state new ch) ≡ state_piece c (state session ch)) → state_left r channel ≡ state_piece c (state session channel)
 piece_left session new c r channel rule opened is left = rw (rule, opened, is) (left channel)

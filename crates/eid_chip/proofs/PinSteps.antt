@@ -35,9 +35,9 @@ use Rattle.eid_chip.specs.States.{state}
 use Rattle.eid_chip.specs.Steps.{CommitsOne, SendsToken, IsEndedByKind, at_tokens, known, state_due, state_left, state_with_pace}
 use Rattle.eid_chip.specs.Transitions.{state_refused, two_messages_later, with_change, without_run}
 use Rattle.eid_chip.specs.Worlds.{world}
-use Rattle.eid_chip.specs.declared.reaction.Ending.TheVariants.{Answered, Lost}
-use Rattle.eid_chip.specs.declared.reaction.Reaction.{Reaction}
+use Rattle.eid_chip.specs.Endings.{Answered, Lost, Reacted}
 use Rattle.eid_chip.specs.declared.session.Memory.{Memory}
+use Rattle.eid_chip.specs.declared.session.Authentication.{Authentication}
 use Rattle.eid_chip.specs.declared.session.Session.{Session}
 use Rattle.eid_chip.proofs.Commits.{Has}
 use Rattle.eid_chip.proofs.Outcomes.{ended_uncommitted, ends_so, if_not, passed}
@@ -52,71 +52,71 @@ beyond : (n : ℕ) → LAST_NUMBER < n → nat_le n LAST_NUMBER ≡ false
 beyond n lt = grind (arith, nat_tests)
 
 -- a Spend is due, and where the token is right a Refill
-pin_due : (kept : FullRecord) (agreed : Agreed) (memory : Memory) (channel : Option ChannelState) (c : PlainCommand) → is_pin (agreed_view agreed).choice.password ≡ true → holds_value 0x85 8 c.body ≡ true → nat_le kept.fields.number LAST_NUMBER ≡ true
-    → due_by kind_rules (known MutualAuthentication kept (state (at_tokens agreed memory) channel) c []) ≡ token_effects true (bytes_eq (data_in c.body) (terminal_token (agreed_view agreed)))
-pin_due kept agreed memory channel c pin formed number = rw (formed, pin, number) refl
+pin_due : (kept : FullRecord) (agreed : Agreed) (begun : Authentication) (memory : Memory) (channel : Option ChannelState) (c : PlainCommand) → is_pin (agreed_view agreed).choice.password ≡ true → holds_value 0x85 8 c.body ≡ true → nat_le kept.fields.number LAST_NUMBER ≡ true
+    → due_by kind_rules (known MutualAuthentication kept (state (at_tokens agreed begun memory) channel) c []) ≡ token_effects true (bytes_eq (data_in c.body) (terminal_token (agreed_view agreed)))
+pin_due kept agreed begun memory channel c pin formed number = rw (formed, pin, number) refl
 
 -- but not where there is no commit number left
-pub no_number : (agreed : Agreed) (memory : Memory) (channel : Option ChannelState) (c : PlainCommand) (token : List ℕ) (r : Reaction) (reply : PlainReply) (copro : CoproSeen) (store : Store) (device : Device) (cells : List ℕ)
+pub no_number : (agreed : Agreed) (begun : Authentication) (memory : Memory) (channel : Option ChannelState) (c : PlainCommand) (token : List ℕ) (r : Reacted) (reply : PlainReply) (copro : CoproSeen) (store : Store) (device : Device) (cells : List ℕ)
     → stored.Fits store device cells → SendsToken c token → is_pin (agreed_view agreed).choice.password ≡ true → LAST_NUMBER < (held cells).fields.number
-    → r.rule.0 ≡ 54 → reply ≡ status_alone 0x6581 → state_left r channel ≡ state_due 54 (state_refused (state (at_tokens agreed memory) channel))
-    → IsEndedByKind MutualAuthentication (state (at_tokens agreed memory) channel) c [] (Answered r 0) reply (world copro store device cells) (world copro store device cells)
-no_number agreed memory channel c token r reply copro store device cells fits sends pin over rule answered left =
+    → r.rule ≡ 54 → reply ≡ status_alone 0x6581 → state_left r channel ≡ state_due 54 (state_refused (state (at_tokens agreed begun memory) channel))
+    → IsEndedByKind MutualAuthentication (state (at_tokens agreed begun memory) channel) c [] (Answered r 0) reply (world copro store device cells) (world copro store device cells)
+no_number agreed begun memory channel c token r reply copro store device cells fits sends pin over rule answered left =
     let full = beyond (held cells).fields.number over in
-    ended_uncommitted MutualAuthentication (state (at_tokens agreed memory) channel) c [] r reply copro copro store device cells fits
+    ended_uncommitted MutualAuthentication (state (at_tokens agreed begun memory) channel) c [] r reply copro copro store device cells fits
     (rw (sends.formed, pin, full) refl)
     (record {
       asked = rw sends.formed refl;
       ended = rw (sends.formed, pin, full) (outcome_is 54 _ r reply rule answered);
-      left = left ∙ not_due_by (held cells).fields r.rule.0 54 MutualAuthentication c [] (state (at_tokens agreed memory) channel) rule refl;
+      left = left ∙ not_due_by (held cells).fields r.rule 54 MutualAuthentication c [] (state (at_tokens agreed begun memory) channel) rule refl;
     })
 
 -- the power was cut in the Spend
-pub spend_cut : (agreed : Agreed) (memory : Memory) (channel : Option ChannelState) (c : PlainCommand) (token : List ℕ) (reply : PlainReply) (copro : CoproSeen) (store next : Store) (device now : Device) (cells cells_now : List ℕ)
+pub spend_cut : (agreed : Agreed) (begun : Authentication) (memory : Memory) (channel : Option ChannelState) (c : PlainCommand) (token : List ℕ) (reply : PlainReply) (copro : CoproSeen) (store next : Store) (device now : Device) (cells cells_now : List ℕ)
     → SendsToken c token → is_pin (agreed_view agreed).choice.password ≡ true → (held cells).fields.number ≤ LAST_NUMBER
     → ((stands cells_now ≡ Some (held cells)) ⊎ (stands cells_now ≡ Some (committed Spend (held cells)))) × WasCutBehind 0 device now
-    → IsEndedByKind MutualAuthentication (state (at_tokens agreed memory) channel) c [] (Lost 0) reply (world copro store device cells) (world copro next now cells_now)
-spend_cut agreed memory channel c token reply copro store next device now cells cells_now sends pin fits left =
+    → IsEndedByKind MutualAuthentication (state (at_tokens agreed begun memory) channel) c [] (Lost 0) reply (world copro store device cells) (world copro next now cells_now)
+spend_cut agreed begun memory channel c token reply copro store next device now cells cells_now sends pin fits left =
     let right = bytes_eq (data_in c.body) (terminal_token (agreed_view agreed)) in
-    ends_so MutualAuthentication (state (at_tokens agreed memory) channel) c [] (token_effects true right) _ (Lost 0) reply (world copro store device cells) (world copro next now cells_now)
-    (rw sends.formed refl) (pin_due (held cells) agreed memory channel c pin sends.formed (within _ fits)) refl (omega arith) tt left
+    ends_so MutualAuthentication (state (at_tokens agreed begun memory) channel) c [] (token_effects true right) _ (Lost 0) reply (world copro store device cells) (world copro next now cells_now)
+    (rw sends.formed refl) (pin_due (held cells) agreed begun memory channel c pin sends.formed (within _ fits)) refl (omega arith) tt left
 
 -- the token was wrong
-pub pin_was_wrong : (agreed : Agreed) (memory : Memory) (channel : Option ChannelState) (c : PlainCommand) (token : List ℕ) (r : Reaction) (reply : PlainReply) (copro : CoproSeen) (store next : Store) (device now : Device) (cells cells_now : List ℕ)
+pub pin_was_wrong : (agreed : Agreed) (begun : Authentication) (memory : Memory) (channel : Option ChannelState) (c : PlainCommand) (token : List ℕ) (r : Reacted) (reply : PlainReply) (copro : CoproSeen) (store next : Store) (device now : Device) (cells cells_now : List ℕ)
     → SendsToken c token → is_pin (agreed_view agreed).choice.password ≡ true → (held cells).fields.number ≤ LAST_NUMBER → bytes_eq token (terminal_token (agreed_view agreed)) ≡ false
     → Has 1 (committed Spend (held cells)) device next now cells_now
-    → r.rule.0 ≡ 55 → reply ≡ status_alone (0x63C0 + ((held cells).fields.tries - 1)) → state_left r channel ≡ state_due 55 (state_refused (state (at_tokens agreed memory) channel))
-    → IsEndedByKind MutualAuthentication (state (at_tokens agreed memory) channel) c [] (Answered r 1) reply (world copro store device cells) (world copro next now cells_now)
-pin_was_wrong agreed memory channel c token r reply copro store next device now cells cells_now sends pin fits wrong has rule answered left =
+    → r.rule ≡ 55 → reply ≡ status_alone (0x63C0 + ((held cells).fields.tries - 1)) → state_left r channel ≡ state_due 55 (state_refused (state (at_tokens agreed begun memory) channel))
+    → IsEndedByKind MutualAuthentication (state (at_tokens agreed begun memory) channel) c [] (Answered r 1) reply (world copro store device cells) (world copro next now cells_now)
+pin_was_wrong agreed begun memory channel c token r reply copro store next device now cells cells_now sends pin fits wrong has rule answered left =
     let other : bytes_eq (data_in c.body) (terminal_token (agreed_view agreed)) ≡ false = rw (← sends.is) wrong in
     let number = within _ fits in
-    ends_so MutualAuthentication (state (at_tokens agreed memory) channel) c [] (Spend ∷ []) (record { rule = 55; reply = status_alone (0x63C0 + ((held cells).fields.tries - 1)) }) (Answered r 1) reply (world copro store device cells) (world copro next now cells_now)
-    (rw sends.formed refl) (pin_due (held cells) agreed memory channel c pin sends.formed number ∙ ap (token_effects true) other)
+    ends_so MutualAuthentication (state (at_tokens agreed begun memory) channel) c [] (Spend ∷ []) (record { rule = 55; reply = status_alone (0x63C0 + ((held cells).fields.tries - 1)) }) (Answered r 1) reply (world copro store device cells) (world copro next now cells_now)
+    (rw sends.formed refl) (pin_due (held cells) agreed begun memory channel c pin sends.formed number ∙ ap (token_effects true) other)
     (rw (sends.formed, pin, number, other) (ap (λ (p : Bool). record { rule = 55; reply = status_alone (token_status (held cells).fields p) }) pin)) (refl, outcome_is 55 _ r reply rule answered)
-    (left ∙ not_due_by (held cells).fields r.rule.0 55 MutualAuthentication c [] (state (at_tokens agreed memory) channel) rule refl) (has.fits, has.holds, has.wrote)
+    (left ∙ not_due_by (held cells).fields r.rule 55 MutualAuthentication c [] (state (at_tokens agreed begun memory) channel) rule refl) (has.fits, has.holds, has.wrote)
 
 -- the power was cut in the Refill
-pub refill_cut : (agreed : Agreed) (memory : Memory) (channel : Option ChannelState) (c : PlainCommand) (token : List ℕ) (reply : PlainReply) (copro : CoproSeen) (store next : Store) (device now : Device) (cells cells_now : List ℕ)
+pub refill_cut : (agreed : Agreed) (begun : Authentication) (memory : Memory) (channel : Option ChannelState) (c : PlainCommand) (token : List ℕ) (reply : PlainReply) (copro : CoproSeen) (store next : Store) (device now : Device) (cells cells_now : List ℕ)
     → SendsToken c token → is_pin (agreed_view agreed).choice.password ≡ true → (held cells).fields.number ≤ LAST_NUMBER → bytes_eq token (terminal_token (agreed_view agreed)) ≡ true
     → ((stands cells_now ≡ Some (committed Spend (held cells))) ⊎ (stands cells_now ≡ Some (committed Refill (committed Spend (held cells))))) × WasCutBehind 1 device now
-    → IsEndedByKind MutualAuthentication (state (at_tokens agreed memory) channel) c [] (Lost 1) reply (world copro store device cells) (world copro next now cells_now)
-refill_cut agreed memory channel c token reply copro store next device now cells cells_now sends pin fits was_right left =
+    → IsEndedByKind MutualAuthentication (state (at_tokens agreed begun memory) channel) c [] (Lost 1) reply (world copro store device cells) (world copro next now cells_now)
+refill_cut agreed begun memory channel c token reply copro store next device now cells cells_now sends pin fits was_right left =
     let right : bytes_eq (data_in c.body) (terminal_token (agreed_view agreed)) ≡ true = rw (← sends.is) was_right in
-    ends_so MutualAuthentication (state (at_tokens agreed memory) channel) c [] (Spend ∷ Refill ∷ []) _ (Lost 1) reply (world copro store device cells) (world copro next now cells_now)
-    (rw sends.formed refl) (pin_due (held cells) agreed memory channel c pin sends.formed (within _ fits) ∙ ap (token_effects true) right) refl (omega arith) tt left
+    ends_so MutualAuthentication (state (at_tokens agreed begun memory) channel) c [] (Spend ∷ Refill ∷ []) _ (Lost 1) reply (world copro store device cells) (world copro next now cells_now)
+    (rw sends.formed refl) (pin_due (held cells) agreed begun memory channel c pin sends.formed (within _ fits) ∙ ap (token_effects true) right) refl (omega arith) tt left
 
 -- the token was right
-pub pin_was_right : (agreed : Agreed) (memory : Memory) (channel : Option ChannelState) (c : PlainCommand) (token : List ℕ) (done : PlainDone) (r : Reaction) (reply : PlainReply) (copro : CoproSeen) (store next : Store) (device now : Device) (cells cells_now : List ℕ)
+pub pin_was_right : (agreed : Agreed) (begun : Authentication) (memory : Memory) (channel : Option ChannelState) (c : PlainCommand) (token : List ℕ) (done : PlainDone) (r : Reacted) (reply : PlainReply) (copro : CoproSeen) (store next : Store) (device now : Device) (cells cells_now : List ℕ)
     → SendsToken c token → is_pin (agreed_view agreed).choice.password ≡ true → (held cells).fields.number ≤ LAST_NUMBER → bytes_eq token (terminal_token (agreed_view agreed)) ≡ true
     → Has 2 (committed Refill (committed Spend (held cells))) device next now cells_now
-    → done ≡ done_by (agreed_view agreed) → r.rule.0 ≡ 0 → reply ≡ data_alone (last_data (held cells) (chip_token (agreed_view agreed))) → state_left r channel ≡ state_with_pace memory done
-    → IsEndedByKind MutualAuthentication (state (at_tokens agreed memory) channel) c [] (Answered r 2) reply (world copro store device cells) (world copro next now cells_now)
+    → done ≡ done_by (agreed_view agreed) → r.rule ≡ 0 → reply ≡ data_alone (last_data (held cells) (chip_token (agreed_view agreed))) → state_left r channel ≡ state_with_pace memory done
+    → IsEndedByKind MutualAuthentication (state (at_tokens agreed begun memory) channel) c [] (Answered r 2) reply (world copro store device cells) (world copro next now cells_now)
 unfolding entered claimed
-pin_was_right agreed memory channel c token done r reply copro store next device now cells cells_now sends pin fits was_right has is rule answered left =
+pin_was_right agreed begun memory channel c token done r reply copro store next device now cells cells_now sends pin fits was_right has is rule answered left =
     let right : bytes_eq (data_in c.body) (terminal_token (agreed_view agreed)) ≡ true = rw (← sends.is) was_right in
     let number = within _ fits in
-    ends_so MutualAuthentication (state (at_tokens agreed memory) channel) c [] (Spend ∷ Refill ∷ []) (record { rule = 0; reply = data_alone (last_data (held cells) (chip_token (agreed_view agreed))) }) (Answered r 2) reply (world copro store device cells) (world copro next now cells_now)
-    (rw sends.formed refl) (pin_due (held cells) agreed memory channel c pin sends.formed number ∙ ap (token_effects true) right)
+    ends_so MutualAuthentication (state (at_tokens agreed begun memory) channel) c [] (Spend ∷ Refill ∷ []) (record { rule = 0; reply = data_alone (last_data (held cells) (chip_token (agreed_view agreed))) }) (Answered r 2) reply (world copro store device cells) (world copro next now cells_now)
+    (rw sends.formed refl) (pin_due (held cells) agreed begun memory channel c pin sends.formed number ∙ ap (token_effects true) right)
     (rw (sends.formed, pin, number, right) refl) (refl, outcome_is 0 _ r reply rule answered)
     (left ∙ rw (rule, is) refl) (has.fits, has.holds, has.wrote)
 
@@ -160,9 +160,9 @@ one_outcome kind kept old c asks effect change one number =
     ∙ ap (λ (r : PlainReply). record { rule = 0; reply = r }) one.answers
 
 -- there is no commit number left
-pub one_over : (kind : Kind) (session : Session) (channel : Option ChannelState) (c : PlainCommand) (asks : List Ask) (effect : PlainEffect) (change : Change) (r : Reaction) (reply : PlainReply) (before after : CoproSeen) (store : Store) (device : Device) (cells : List ℕ)
+pub one_over : (kind : Kind) (session : Session) (channel : Option ChannelState) (c : PlainCommand) (asks : List Ask) (effect : PlainEffect) (change : Change) (r : Reacted) (reply : PlainReply) (before after : CoproSeen) (store : Store) (device : Device) (cells : List ℕ)
     → stored.Fits store device cells → CommitsOne kind (held cells) (state session channel) c asks effect change → LAST_NUMBER < (held cells).fields.number
-    → r.rule.0 ≡ 54 → reply ≡ status_alone 0x6581 → state_left r channel ≡ state_due 54 (state_refused (state session channel))
+    → r.rule ≡ 54 → reply ≡ status_alone 0x6581 → state_left r channel ≡ state_due 54 (state_refused (state session channel))
     → IsEndedByKind kind (state session channel) c asks (Answered r 0) reply (world before store device cells) (world after store device cells)
 one_over kind session channel c asks effect change r reply before after store device cells fits one over rule answered left =
     let kept = held cells in
@@ -176,7 +176,7 @@ one_over kind session channel c asks effect change r reply before after store de
     ended_uncommitted kind old c asks r reply before after store device cells fits none (record {
       asked = one.asked;
       ended = ap (λ (f : Option RuleRow). outcome_by f s) (open_rules kind kept old c asks effect change (commit_rules ++ proof_rules) one) ∙ fails.1 ∙ outcome_is 54 _ r reply rule answered;
-      left = left ∙ not_due_by kept.fields r.rule.0 54 kind c (answers_of asks) old rule refl;
+      left = left ∙ not_due_by kept.fields r.rule 54 kind c (answers_of asks) old rule refl;
     })
 
 -- the power was cut in its commit
@@ -189,9 +189,9 @@ one_cut kind session channel c asks effect change reply before after store next 
     one.asked (one_due kind (held cells) (state session channel) c asks effect change one (within _ fits)) refl (omega arith) tt left
 
 -- it was committed
-pub one_committed : (kind : Kind) (session without : Session) (channel : Option ChannelState) (c : PlainCommand) (asks : List Ask) (effect : PlainEffect) (change : Change) (r : Reaction) (reply : PlainReply) (before after : CoproSeen) (store next : Store) (device now : Device) (cells cells_now : List ℕ)
+pub one_committed : (kind : Kind) (session without : Session) (channel : Option ChannelState) (c : PlainCommand) (asks : List Ask) (effect : PlainEffect) (change : Change) (r : Reacted) (reply : PlainReply) (before after : CoproSeen) (store next : Store) (device now : Device) (cells cells_now : List ℕ)
     → CommitsOne kind (held cells) (state session channel) c asks effect change → (held cells).fields.number ≤ LAST_NUMBER → Has 1 (committed effect (held cells)) device next now cells_now
-    → r.rule.0 ≡ 0 → reply ≡ status_alone 0x9000 → r.session ≡ without → r.opened ≡ None → ((ch : Option ChannelState) → state without ch ≡ with_change change (without_run (state session ch)))
+    → r.rule ≡ 0 → reply ≡ status_alone 0x9000 → r.session ≡ without → r.opened ≡ None → ((ch : Option ChannelState) → state without ch ≡ with_change change (without_run (state session ch)))
     → IsEndedByKind kind (state session channel) c asks (Answered r 1) reply (world before store device cells) (world after next now cells_now)
 one_committed kind session without channel c asks effect change r reply before after store next device now cells cells_now one fits has rule answered kept_session opened left =
     let number = within _ fits in

@@ -11,7 +11,9 @@ use Rattle.eid_model.specs.Runs.{entered, claimed}
 use Rattle.eid_model.specs.Sessions.{State}
 use Rattle.eid_model.specs.Rules.{kind_rules, answer_rules, commit_rules, proof_rules, first_failed, file_meant, bytes_of_file, offset_meant}
 use Rattle.eid_model.specs.Answers.{read_reply, success_of}
-use Rattle.eid_chip.specs.Transitions.{state_carried_out, state_refused}
+use Rattle.eid_record.specs.declared.fields.FileNo.{FileNo}
+use Rattle.eid_chip.specs.declared.session.Change.TheVariants.{Current, Nothing}
+use Rattle.eid_chip.specs.Transitions.{state_carried_out, state_refused, with_change}
 use Rattle.eid_chip.specs.Granting.{reading_refused}
 use Rattle.eid_chip.specs.Steps.{known, refusal_by}
 use Rattle.eid_chip.proofs.RightSteps.{MayRead, reading_served}
@@ -100,3 +102,8 @@ pub read_leaves : (kept : FullRecord) (old : State) (c : PlainCommand) (file : �
 unfolding entered claimed file_meant
 read_leaves kept old c file meant =
     ap (λ (o : Option ℕ). record (state_refused old) { current = o }) (current_by (is_by_short c) (file_of_short (c.p1 - 0x80)) old.current file meant)
+
+-- the change that names it
+pub file_named : (by_short : Bool) (file : FileNo) (s : State) → with_change (if by_short then Current file else Nothing) s ≡ record s { current = if by_short then Some file.0 else s.current }
+file_named true file s = refl
+file_named false file s = refl

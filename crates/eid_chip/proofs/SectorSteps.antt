@@ -29,8 +29,9 @@ use Rattle.eid_chip.specs.SectorEnds.{Agreed, Faulted, NoSecret, SectorEnd, iden
 use Rattle.eid_chip.specs.Steps.{IsAnsweredByKind, PlainRefusal, known, refusal_by}
 use Rattle.eid_chip.specs.States.{state}
 use Rattle.eid_chip.specs.Transitions.{state_carried_out, two_messages_later}
-use Rattle.eid_chip.specs.declared.reaction.Reaction.{Reaction}
+use Rattle.eid_chip.specs.Endings.{Reacted}
 use Rattle.eid_chip.specs.declared.session.Run.TheVariants as runs
+use Rattle.eid_chip.specs.declared.session.Authentication.TheVariants as begun
 use Rattle.eid_chip.specs.declared.session.Session.{Session}
 use Rattle.eid_chip.proofs.CarriedOut.{idle_state}
 use Rattle.eid_chip.proofs.PaceSteps.{WasRefused, WentOn, due, moved, not_due_by, outcome_is}
@@ -98,7 +99,7 @@ pub record SendsSectors (old : State) (c : PlainCommand) (first second : Option 
   pub its : are_its_sectors old.certificates.sectors (Some (record { first = first; second = second })) ≡ true
 
 -- the first question was answered with a fault or with no point
-pub first_refused : (kept : FullRecord) (old : State) (c : PlainCommand) (first second : Option PlainSectorKey) (one : SectorEnd) (refused : PlainRefusal) (reaction : Reaction) (said : PlainReply)
+pub first_refused : (kept : FullRecord) (old : State) (c : PlainCommand) (first second : Option PlainSectorKey) (one : SectorEnd) (refused : PlainRefusal) (reaction : Reacted) (said : PlainReply)
     → SendsSectors old c first second → Err refused ≡ sector_given first one → WasRefused reaction said old refused
     → IsAnsweredByKind PerformRestrictedIdentification kept old c (sector_asks kept.fields.ri_secret first one) reaction said
 first_refused kept old c None second one refused reaction said sends e was = absurd (cc)
@@ -108,7 +109,7 @@ first_refused kept old c (Some key) second Faulted refused reaction said sends e
     record {
       asked = (rw (sends.body, sends.its) refl, refl, rw (sends.body, sends.its) refl);
       ended = rw (sends.body, sends.its) (outcome_is 50 _ reaction said w.rule w.answered);
-      left = w.state ∙ not_due_by kept.fields reaction.rule.0 50 PerformRestrictedIdentification c _ old w.rule refl;
+      left = w.state ∙ not_due_by kept.fields reaction.rule 50 PerformRestrictedIdentification c _ old w.rule refl;
     }
 first_refused kept old c (Some key) second NoSecret refused reaction said sends e was =
     let same : refused ≡ record { rule = 52; status = 0x6A80 } = cc in
@@ -116,12 +117,12 @@ first_refused kept old c (Some key) second NoSecret refused reaction said sends 
     record {
       asked = (rw (sends.body, sends.its) refl, refl, rw (sends.body, sends.its) refl);
       ended = rw (sends.body, sends.its) (outcome_is 52 _ reaction said w.rule w.answered);
-      left = w.state ∙ not_due_by kept.fields reaction.rule.0 52 PerformRestrictedIdentification c _ old w.rule refl;
+      left = w.state ∙ not_due_by kept.fields reaction.rule 52 PerformRestrictedIdentification c _ old w.rule refl;
     }
 first_refused kept old c (Some key) second (Agreed shared) refused reaction said sends e was = absurd (cc)
 
 -- the second one was
-pub second_refused : (kept : FullRecord) (old : State) (c : PlainCommand) (first second : Option PlainSectorKey) (one other : SectorEnd) (found : Option (List ℕ)) (refused : PlainRefusal) (reaction : Reaction) (said : PlainReply)
+pub second_refused : (kept : FullRecord) (old : State) (c : PlainCommand) (first second : Option PlainSectorKey) (one other : SectorEnd) (found : Option (List ℕ)) (refused : PlainRefusal) (reaction : Reacted) (said : PlainReply)
     → SendsSectors old c first second → Ok found ≡ sector_given first one → Err refused ≡ sector_given second other → WasRefused reaction said old refused
     → IsAnsweredByKind PerformRestrictedIdentification kept old c (sector_asks kept.fields.ri_secret first one ++ sector_asks kept.fields.ri_secret second other) reaction said
 second_refused kept old c first None one other found refused reaction said sends passed e was = absurd (cc)
@@ -134,7 +135,7 @@ second_refused kept old c None (Some key) one Faulted found refused reaction sai
     record {
       asked = (rw (sends.body, sends.its) refl, refl, rw (sends.body, sends.its) refl);
       ended = rw (sends.body, sends.its) (outcome_is 50 _ reaction said w.rule w.answered);
-      left = w.state ∙ not_due_by kept.fields reaction.rule.0 50 PerformRestrictedIdentification c _ old w.rule refl;
+      left = w.state ∙ not_due_by kept.fields reaction.rule 50 PerformRestrictedIdentification c _ old w.rule refl;
     }
 second_refused kept old c None (Some key) one NoSecret found refused reaction said sends passed e was =
     let same : refused ≡ record { rule = 52; status = 0x6A80 } = cc in
@@ -142,7 +143,7 @@ second_refused kept old c None (Some key) one NoSecret found refused reaction sa
     record {
       asked = (rw (sends.body, sends.its) refl, refl, rw (sends.body, sends.its) refl);
       ended = rw (sends.body, sends.its) (outcome_is 52 _ reaction said w.rule w.answered);
-      left = w.state ∙ not_due_by kept.fields reaction.rule.0 52 PerformRestrictedIdentification c _ old w.rule refl;
+      left = w.state ∙ not_due_by kept.fields reaction.rule 52 PerformRestrictedIdentification c _ old w.rule refl;
     }
 second_refused kept old c (Some before) (Some key) (Agreed earlier) Faulted found refused reaction said sends passed e was =
     let same : refused ≡ record { rule = 50; status = 0x6F00 } = cc in
@@ -150,7 +151,7 @@ second_refused kept old c (Some before) (Some key) (Agreed earlier) Faulted foun
     record {
       asked = (rw (sends.body, sends.its) refl, refl, (rw (sends.body, sends.its) refl, refl, rw (sends.body, sends.its) refl));
       ended = rw (sends.body, sends.its) (outcome_is 50 _ reaction said w.rule w.answered);
-      left = w.state ∙ not_due_by kept.fields reaction.rule.0 50 PerformRestrictedIdentification c _ old w.rule refl;
+      left = w.state ∙ not_due_by kept.fields reaction.rule 50 PerformRestrictedIdentification c _ old w.rule refl;
     }
 second_refused kept old c (Some before) (Some key) (Agreed earlier) NoSecret found refused reaction said sends passed e was =
     let same : refused ≡ record { rule = 52; status = 0x6A80 } = cc in
@@ -158,7 +159,7 @@ second_refused kept old c (Some before) (Some key) (Agreed earlier) NoSecret fou
     record {
       asked = (rw (sends.body, sends.its) refl, refl, (rw (sends.body, sends.its) refl, refl, rw (sends.body, sends.its) refl));
       ended = rw (sends.body, sends.its) (outcome_is 52 _ reaction said w.rule w.answered);
-      left = w.state ∙ not_due_by kept.fields reaction.rule.0 52 PerformRestrictedIdentification c _ old w.rule refl;
+      left = w.state ∙ not_due_by kept.fields reaction.rule 52 PerformRestrictedIdentification c _ old w.rule refl;
     }
 
 -- what is told, by the secrets that were agreed
@@ -169,16 +170,16 @@ told_so first second given found more c said body same answered =
     answered ∙ ap (λ (inner : List ℕ). data_alone (object 0x7C inner)) same ∙ ap (λ (k : Option PlainSectorKeys). identifiers_reply k given) (sym body)
 
 -- a reaction that went on without a run
-pub identified_so : (reaction : Reaction) (said : PlainReply) (old : Session) (channel : Option ChannelState) (new : Session) (reply : PlainReply) → reaction.rule.0 ≡ 0 → said ≡ reply → reaction.opened ≡ None → reaction.session ≡ new
-    → new.run ≡ runs.Idle → new.memory ≡ old.memory → WentOn reaction said (state old channel) None Idle NotBegun reply
-identified_so reaction said old channel new reply rule answer opened session run memory = record {
+pub identified_so : (reaction : Reacted) (said : PlainReply) (old : Session) (channel : Option ChannelState) (new : Session) (reply : PlainReply) → reaction.rule ≡ 0 → said ≡ reply → reaction.opened ≡ None → reaction.session ≡ new
+    → new.run ≡ runs.Idle → new.authentication ≡ begun.NotBegun → new.memory ≡ old.memory → WentOn reaction said (state old channel) None Idle NotBegun reply
+identified_so reaction said old channel new reply rule answer opened session run begun memory = record {
   rule = rule;
   answered = answer;
-  state = rw (rule, opened, session) (idle_state new old.memory (option_map two_messages_later channel) run memory);
+  state = rw (rule, opened, session) (idle_state new old.memory (option_map two_messages_later channel) run begun memory);
 }
 
 -- all that was asked was told
-pub identified_to : (kept : FullRecord) (old : State) (c : PlainCommand) (first second : Option PlainSectorKey) (one other : SectorEnd) (found more : Option (List ℕ)) (reaction : Reaction) (said : PlainReply)
+pub identified_to : (kept : FullRecord) (old : State) (c : PlainCommand) (first second : Option PlainSectorKey) (one other : SectorEnd) (found more : Option (List ℕ)) (reaction : Reacted) (said : PlainReply)
     → SendsSectors old c first second → Ok found ≡ sector_given first one → Ok more ≡ sector_given second other
     → WentOn reaction said old None Idle NotBegun (data_alone (object 0x7C (identifier_object 0x81 found ++ identifier_object 0x83 more)))
     → IsAnsweredByKind PerformRestrictedIdentification kept old c (sector_asks kept.fields.ri_secret first one ++ sector_asks kept.fields.ri_secret second other) reaction said
@@ -193,7 +194,7 @@ identified_to kept old c None None one other found more reaction said sends pass
     record {
       asked = rw (sends.body, sends.its) refl;
       ended = rw (sends.body, sends.its) (outcome_is 0 _ reaction said h.rule (told_so None None ([]) found more c said sends.body (rw (found_is, more_is) refl) h.answered));
-      left = h.state ∙ due kept.fields reaction.rule.0 PerformRestrictedIdentification c ([]) old h.rule;
+      left = h.state ∙ due kept.fields reaction.rule PerformRestrictedIdentification c ([]) old h.rule;
     }
 identified_to kept old c (Some key) None (Agreed a) other found more reaction said sends passed e h =
     let found_is : found ≡ Some (identifier a) = cc in
@@ -201,7 +202,7 @@ identified_to kept old c (Some key) None (Agreed a) other found more reaction sa
     record {
       asked = (rw (sends.body, sends.its) refl, refl, rw (sends.body, sends.its) refl);
       ended = rw (sends.body, sends.its) (outcome_is 0 _ reaction said h.rule (told_so (Some key) None (answers.Shared a ∷ []) found more c said sends.body (rw (found_is, more_is) (append-nil (object 0x81 (identifier a)))) h.answered));
-      left = h.state ∙ due kept.fields reaction.rule.0 PerformRestrictedIdentification c (answers.Shared a ∷ []) old h.rule;
+      left = h.state ∙ due kept.fields reaction.rule PerformRestrictedIdentification c (answers.Shared a ∷ []) old h.rule;
     }
 identified_to kept old c None (Some key) one (Agreed b) found more reaction said sends passed e h =
     let found_is : found ≡ None = cc in
@@ -209,7 +210,7 @@ identified_to kept old c None (Some key) one (Agreed b) found more reaction said
     record {
       asked = (rw (sends.body, sends.its) refl, refl, rw (sends.body, sends.its) refl);
       ended = rw (sends.body, sends.its) (outcome_is 0 _ reaction said h.rule (told_so None (Some key) (answers.Shared b ∷ []) found more c said sends.body (rw (found_is, more_is) refl) h.answered));
-      left = h.state ∙ due kept.fields reaction.rule.0 PerformRestrictedIdentification c (answers.Shared b ∷ []) old h.rule;
+      left = h.state ∙ due kept.fields reaction.rule PerformRestrictedIdentification c (answers.Shared b ∷ []) old h.rule;
     }
 identified_to kept old c (Some key) (Some next) (Agreed a) (Agreed b) found more reaction said sends passed e h =
     let found_is : found ≡ Some (identifier a) = cc in
@@ -217,5 +218,5 @@ identified_to kept old c (Some key) (Some next) (Agreed a) (Agreed b) found more
     record {
       asked = (rw (sends.body, sends.its) refl, refl, (rw (sends.body, sends.its) refl, refl, rw (sends.body, sends.its) refl));
       ended = rw (sends.body, sends.its) (outcome_is 0 _ reaction said h.rule (told_so (Some key) (Some next) (answers.Shared a ∷ answers.Shared b ∷ []) found more c said sends.body (rw (found_is, more_is) refl) h.answered));
-      left = h.state ∙ due kept.fields reaction.rule.0 PerformRestrictedIdentification c (answers.Shared a ∷ answers.Shared b ∷ []) old h.rule;
+      left = h.state ∙ due kept.fields reaction.rule PerformRestrictedIdentification c (answers.Shared a ∷ answers.Shared b ∷ []) old h.rule;
     }

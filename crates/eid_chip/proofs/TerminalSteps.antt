@@ -22,7 +22,7 @@ use Rattle.eid_model.specs.Runs.{Idle, Authentication, Announced, Challenged, as
 use Rattle.eid_model.specs.Sessions.{State}
 use Rattle.eid_chip.specs.Steps.{IsAnsweredByKind, known, state_due, state_left}
 use Rattle.eid_chip.specs.Transitions.{context_in, state_carried_out, state_refused}
-use Rattle.eid_chip.specs.declared.reaction.Reaction.{Reaction}
+use Rattle.eid_chip.specs.Endings.{Reacted}
 use Rattle.eid_chip.proofs.PaceSteps.{WasUnformed, WentOn, both, due, moved, not_due, outcome_is}
 
 -- ---- the announcement
@@ -64,14 +64,14 @@ announcement_leaves kept old c a identity announced found identity_is given =
 
 -- ---- the challenge
 
-pub no_challenge_body : (kept : FullRecord) (old : State) (c : PlainCommand) (reaction : Reaction) (said : PlainReply) → (length c.body == 0) ≡ false → WasUnformed reaction said old → IsAnsweredByKind GetChallenge kept old c [] reaction said
+pub no_challenge_body : (kept : FullRecord) (old : State) (c : PlainCommand) (reaction : Reacted) (said : PlainReply) → (length c.body == 0) ≡ false → WasUnformed reaction said old → IsAnsweredByKind GetChallenge kept old c [] reaction said
 no_challenge_body kept old c reaction said body h = record {
   asked = rw body refl;
   ended = rw body (outcome_is 10 _ reaction said h.rule h.answered);
-  left = h.state ∙ not_due kept.fields reaction.rule.0 GetChallenge c [] old h.rule;
+  left = h.state ∙ not_due kept.fields reaction.rule GetChallenge c [] old h.rule;
 }
 
-pub challenge_sent : (kept : FullRecord) (old : State) (c : PlainCommand) (identity : List ℕ) (announced : PlainAnnounced) (end : ChallengeEnd) (challenged : PlainChallenged) (bytes : List ℕ) (reaction : Reaction) (said : PlainReply)
+pub challenge_sent : (kept : FullRecord) (old : State) (c : PlainCommand) (identity : List ℕ) (announced : PlainAnnounced) (end : ChallengeEnd) (challenged : PlainChallenged) (bytes : List ℕ) (reaction : Reacted) (said : PlainReply)
     → old.authentication ≡ Announced identity announced → (length c.body == 0) ≡ true → Ok (challenged, bytes) ≡ challenge_given announced end
     → WentOn reaction said old (Some ExternalAuthenticate) Idle (Challenged identity challenged) (data_alone bytes) → IsAnsweredByKind GetChallenge kept old c (challenge_asks end) reaction said
 unfolding entered claimed
@@ -83,21 +83,21 @@ challenge_sent kept old c identity announced (Drawn challenge) challenged bytes 
     record {
       asked = (rw (body, at) refl, refl, rw (body, at) refl);
       ended = rw body (outcome_is 0 _ reaction said h.rule (h.answered ∙ ap (λ (b : List ℕ). data_alone b) parts.1));
-      left = h.state ∙ ap (λ (n : Authentication). moved (Some ExternalAuthenticate) Idle n old) claim ∙ due kept.fields reaction.rule.0 GetChallenge c given old h.rule;
+      left = h.state ∙ ap (λ (n : Authentication). moved (Some ExternalAuthenticate) Idle n old) claim ∙ due kept.fields reaction.rule GetChallenge c given old h.rule;
     }
 
 -- ---- the signature
 
-pub no_signature : (kept : FullRecord) (old : State) (c : PlainCommand) (reaction : Reaction) (said : PlainReply) → (length c.body == SIGNATURE_SIZE) ≡ false → WasUnformed reaction said old → IsAnsweredByKind ExternalAuthenticate kept old c [] reaction said
+pub no_signature : (kept : FullRecord) (old : State) (c : PlainCommand) (reaction : Reacted) (said : PlainReply) → (length c.body == SIGNATURE_SIZE) ≡ false → WasUnformed reaction said old → IsAnsweredByKind ExternalAuthenticate kept old c [] reaction said
 no_signature kept old c reaction said body h = record {
   asked = rw body refl;
   ended = rw body (outcome_is 10 _ reaction said h.rule h.answered);
-  left = h.state ∙ not_due kept.fields reaction.rule.0 ExternalAuthenticate c [] old h.rule;
+  left = h.state ∙ not_due kept.fields reaction.rule ExternalAuthenticate c [] old h.rule;
 }
 
-pub terminal_known : (kept : FullRecord) (old : State) (c : PlainCommand) (identity : List ℕ) (challenged : PlainChallenged) (signature : List ℕ) (end : VerifyEnd) (terminal : PlainTerminalKnown) (reaction : Reaction) (said : PlainReply)
+pub terminal_known : (kept : FullRecord) (old : State) (c : PlainCommand) (identity : List ℕ) (challenged : PlainChallenged) (signature : List ℕ) (end : VerifyEnd) (terminal : PlainTerminalKnown) (reaction : Reacted) (said : PlainReply)
     → old.authentication ≡ Challenged identity challenged → signature ≡ c.body → (length c.body == SIGNATURE_SIZE) ≡ true → Ok terminal ≡ verify_given challenged end
-    → reaction.rule.0 ≡ 0 → said ≡ status_alone 0x9000 → state_left reaction old.channel ≡ record (state_refused old) { terminal = Some terminal; chip_proven = false }
+    → reaction.rule ≡ 0 → said ≡ status_alone 0x9000 → state_left reaction old.channel ≡ record (state_refused old) { terminal = Some terminal; chip_proven = false }
     → IsAnsweredByKind ExternalAuthenticate kept old c (verify_asks challenged identity signature end) reaction said
 unfolding entered claimed
 terminal_known kept old c identity challenged signature NoVerdict terminal reaction said at is body e rule answered left = absurd (cc)
@@ -110,12 +110,12 @@ terminal_known kept old c identity challenged signature Verified terminal reacti
       ended = rw body (outcome_is 0 _ reaction said rule answered);
       left = left ∙ ap (λ (t : PlainTerminalKnown). record (state_refused old) { terminal = Some t; chip_proven = false }) same
           ∙ (let known_is : record (state_refused old) { terminal = Some (known_by challenged); chip_proven = false } ≡ state_carried_out kept.fields ExternalAuthenticate c given old = rw at refl in known_is)
-          ∙ due kept.fields reaction.rule.0 ExternalAuthenticate c given old rule;
+          ∙ due kept.fields reaction.rule ExternalAuthenticate c given old rule;
     }
 
 -- ---- a selection that names no protocol
 
-pub no_protocol : (kept : FullRecord) (old : State) (c : PlainCommand) (r : Reaction) (reply : PlainReply) → r.rule.0 ≡ 10 → reply ≡ status_alone 0x6A80 → state_left r old.channel ≡ state_due 10 (state_refused old) → IsAnsweredByKind NoProtocol kept old c [] r reply
+pub no_protocol : (kept : FullRecord) (old : State) (c : PlainCommand) (r : Reacted) (reply : PlainReply) → r.rule ≡ 10 → reply ≡ status_alone 0x6A80 → state_left r old.channel ≡ state_due 10 (state_refused old) → IsAnsweredByKind NoProtocol kept old c [] r reply
 no_protocol kept old c r reply rule answered left = record {
   asked = refl;
   ended = rw (rule, answered) refl;

@@ -17,7 +17,7 @@ use Rattle.eid_model.specs.Answers.{Outcome, due, outcome, situation, kind_incom
 use Rattle.eid_model.specs.Laws.{goes_on_with_pin}
 use Rattle.eid_model.specs.Ledger.{all_committed}
 use Rattle.eid_model.specs.Moments.{ends_session_by}
-use Rattle.eid_model.specs.Rules.{Incoming, Situation, starts_pin}
+use Rattle.eid_model.specs.Rules.{Incoming, OfCommand, Situation, starts_pin}
 use Rattle.eid_model.specs.Runs.{Phase, answers_of, is_piece_of_next}
 use Rattle.eid_model.specs.Sessions.{State}
 use Rattle.eid_model.proofs.Books.{nothing_due}
@@ -25,13 +25,13 @@ use Rattle.eid_model.proofs.Compared.{is_compared, try_held}
 use Rattle.eid_model.proofs.Laws.{GoesOn, goes_entered}
 use Rattle.eid_chip.specs.Held.{held}
 use Rattle.eid_chip.specs.States.{chained, phase_of, state}
-use Rattle.eid_chip.specs.Steps.{IsEndedByRules, Responds, outcome_seen, state_due}
+use Rattle.eid_chip.specs.Steps.{IsEndedByRules, Reacts, outcome_seen, state_due}
 use Rattle.eid_chip.specs.Transitions.{state_answered, state_unkinded}
-use Rattle.eid_chip.specs.Tries.{tries_pin, IsTryLeft}
+use Rattle.eid_chip.specs.Tries.{IsIdleIfLost, IsTryLeft, tries_pin}
 use Rattle.eid_chip.specs.Worlds.{World, IsMounted}
 use Rattle.eid_chip.specs.declared.reaction.Ending.{Ending}
-use Rattle.eid_chip.specs.declared.reaction.Ending.TheVariants.{Answered}
-use Rattle.eid_chip.specs.declared.reaction.Reaction.{Reaction}
+use Rattle.eid_chip.specs.declared.reaction.Ending.TheVariants as endings
+use Rattle.eid_chip.specs.Endings.{Answered, Reacted, ended, reacted}
 use Rattle.eid_chip.specs.declared.session.Run.{Run}
 use Rattle.eid_chip.specs.declared.session.Run.TheVariants as runs
 use Rattle.eid_chip.specs.declared.session.Session.{Session}
@@ -45,9 +45,6 @@ phase_tries (runs.NonceSent sent) = refl
 phase_tries (runs.Mapped mapped) = refl
 phase_tries (runs.Agreed agreed) = refl
 phase_tries (runs.KeyChosen name) = refl
-phase_tries (runs.Announced identity announced) = refl
-phase_tries (runs.Challenged identity challenged) = refl
-phase_tries (runs.CaChosen chosen) = refl
 phase_tries runs.RiChosen = refl
 
 -- What was answered where the PACE goes on: a request was carried out that goes on, or a fragment taken.
@@ -85,9 +82,9 @@ fields_stay was now before after same =
 abbrev seen_at : Session → Option ChannelState → Option OpenChain → Incoming → List Ask → World → Situation
 seen_at session channel fragments incoming asks was = situation (held was.cells) (chained fragments (state session channel)) incoming (answers_of asks)
 
-tries_left : (session : Session) (channel : Option ChannelState) (fragments : Option OpenChain) (incoming : Incoming) (asks : List Ask) (r : Reaction) (reply : PlainReply) (was now : World) → IsMounted was → IsTryLeft session.run (stored.fields_of was.store)
+tries_left : (session : Session) (channel : Option ChannelState) (fragments : Option OpenChain) (incoming : Incoming) (asks : List Ask) (r : Reacted) (reply : PlainReply) (was now : World) → IsMounted was → IsTryLeft session.run (stored.fields_of was.store)
     → outcome (seen_at session channel fragments incoming asks was) ≡ outcome_seen r reply → IsMounted now → stands now.cells ≡ Some (all_committed (due (seen_at session channel fragments incoming asks was)) (held was.cells))
-    → Continued r.rule.0 (kind_incoming (chained fragments (state session channel)) incoming) (phase_of session.run) → 1 ≤ (stored.fields_of now.store).tries
+    → Continued r.rule (kind_incoming (chained fragments (state session channel)) incoming) (phase_of session.run) → 1 ≤ (stored.fields_of now.store).tries
 tries_left session channel fragments incoming asks r reply was now mounted earlier is after leaves went = by went.goes.by_step where
   s : Situation
   s = seen_at session channel fragments incoming asks was
@@ -109,20 +106,30 @@ tries_left session channel fragments incoming asks r reply was now mounted earli
   by (inr goes) = stays (earlier (phase_tries session.run ∙ goes))
 
 -- the tries after a command that was answered
-pub try_stays : (session : Session) (channel : Option ChannelState) (fragments : Option OpenChain) (incoming : Incoming) (asks : List Ask) (r : Reaction) (finished : ℕ) (reply : PlainReply) (left : Option OpenChain) (was now : World) → IsMounted was → IsTryLeft session.run (stored.fields_of was.store)
+pub try_stays : (session : Session) (channel : Option ChannelState) (fragments : Option OpenChain) (incoming : Incoming) (asks : List Ask) (r : Reacted) (finished : ℕ) (reply : PlainReply) (left : Option OpenChain) (was now : World) → IsMounted was → IsTryLeft session.run (stored.fields_of was.store)
     → IsEndedByRules (chained fragments (state session channel)) incoming asks (Answered r finished) reply left was now → IsTryLeft r.session.run (stored.fields_of now.store)
 try_stays session channel fragments incoming asks r finished reply left was now mounted earlier ended tries =
     let old : State = chained fragments (state session channel) in
     let s : Situation = situation (held was.cells) old incoming (answers_of asks) in
-    let next : phase_of r.session.run ≡ (state_due r.rule.0 (state_answered (held was.cells).fields r.rule.0 (kind_incoming old incoming) (command_of incoming) (answers_of asks) old)).phase = ap (λ (x : State). x.phase) ended.next in
-    let goes : goes_on_with_pin (state_due r.rule.0 (state_answered (held was.cells).fields r.rule.0 (kind_incoming old incoming) (command_of incoming) (answers_of asks) old)).phase ≡ true =
+    let next : phase_of r.session.run ≡ (state_due r.rule (state_answered (held was.cells).fields r.rule (kind_incoming old incoming) (command_of incoming) (answers_of asks) old)).phase = ap (λ (x : State). x.phase) ended.next in
+    let goes : goes_on_with_pin (state_due r.rule (state_answered (held was.cells).fields r.rule (kind_incoming old incoming) (command_of incoming) (answers_of asks) old)).phase ≡ true =
     ap goes_on_with_pin (sym next) ∙ sym (phase_tries r.session.run) ∙ tries in
-    let went = continued_at (held was.cells).fields (ends_session_by r.rule.0) (r.rule.0 == 0) r.rule.0 (kind_incoming old incoming) (command_of incoming) (answers_of asks) old refl refl goes in
+    let went = continued_at (held was.cells).fields (ends_session_by r.rule) (r.rule == 0) r.rule (kind_incoming old incoming) (command_of incoming) (answers_of asks) old refl refl goes in
     tries_left session channel fragments incoming asks r reply was now mounted earlier ended.ended.1 ended.leaves.0 ended.leaves.1 went
 
--- and so after a response
-pub response_stays : (session : Session) (channel : Option ChannelState) (fragments : Option OpenChain) (bytes : List ℕ) (plain : Option PlainCommand) (ending : Ending) (r : Reaction) (finished : ℕ) (reply : PlainReply) (left : Option OpenChain) (was now : World) → IsMounted was → IsTryLeft session.run (stored.fields_of was.store)
-    → Responds session channel fragments bytes plain ending reply left was now → ending ≡ Answered r finished → IsTryLeft r.session.run (stored.fields_of now.store)
-response_stays session channel fragments bytes plain ending r finished reply left was now mounted earlier responds is =
-    try_stays session channel fragments responds.incoming responds.asks r finished reply left was now mounted earlier
-    (subst (λ (e : Ending). IsEndedByRules (chained fragments (state session channel)) responds.incoming responds.asks e reply left was now) is responds.ended)
+-- and so after a command
+pub reaction_stays : (session : Session) (fragments : Option OpenChain) (c : PlainCommand) (r : Reacted) (finished : ℕ) (reply : PlainReply) (left : Option OpenChain) (was now : World) → IsMounted was → IsTryLeft session.run (stored.fields_of was.store)
+    → Reacts session fragments c (Answered r finished) reply left was now → IsTryLeft r.session.run (stored.fields_of now.store)
+reaction_stays session fragments c r finished reply left was now mounted earlier reacts =
+    try_stays session None fragments (OfCommand c) reacts.asks r finished reply left was now mounted earlier (reacts.ended None)
+
+-- no run tries the PIN where there is none
+idle_tries : (run : Run) (kept : PlainRecord) → run ≡ runs.Idle → IsTryLeft run kept
+idle_tries run kept idle tries = absurd (let none : tries_pin run ≡ false = ap tries_pin idle in cc)
+
+-- and so however it ended
+pub ending_stays : (ending : Ending) (session new : Session) (fragments : Option OpenChain) (c : PlainCommand) (reply : PlainReply) (left : Option OpenChain) (was now : World) → IsMounted was → IsTryLeft session.run (stored.fields_of was.store)
+    → IsIdleIfLost ending new.run → Reacts session fragments c (ended ending new) reply left was now → IsTryLeft new.run (stored.fields_of now.store)
+ending_stays (endings.Answered reaction finished) session new fragments c reply left was now mounted earlier idle reacts =
+    reaction_stays session fragments c (reacted reaction new) finished reply left was now mounted earlier reacts
+ending_stays (endings.Lost finished) session new fragments c reply left was now mounted earlier idle reacts = idle_tries new.run (stored.fields_of now.store) idle

@@ -16,13 +16,14 @@ use Rattle.eid_model.specs.Rules.{PIN_MANAGEMENT, RESTRICTED_IDENTIFICATION, cha
 use Rattle.eid_model.specs.Sessions.{State}
 use Rattle.eid_chip.specs.declared.refusal.Refusal.{Refusal}
 use Rattle.eid_chip.specs.declared.session.Memory.{Memory}
+use Rattle.eid_chip.specs.declared.session.Authentication.TheVariants.{NotBegun}
 use Rattle.eid_chip.specs.declared.session.Run.TheVariants.{Idle}
 use Rattle.eid_chip.specs.States.{memory, state}
 use Rattle.eid_chip.specs.Steps.{PlainRefusal, refusal}
 
 -- what a session keeps, as a state
 abbrev pub of_memory : Memory → State
-of_memory m = state (record { run = Idle; memory = m }) None
+of_memory m = state (record { run = Idle; authentication = NotBegun; memory = m }) None
 
 -- the right that is among these, if there are any
 abbrev pub has_among : Option Bits → ℕ → Bool

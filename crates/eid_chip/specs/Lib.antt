@@ -1,8 +1,10 @@
 pub mod Fits
 pub mod Held
 pub mod States
+pub mod Endings
 pub mod Tries
 pub mod Steps
+pub mod Requests
 pub mod Transitions
 pub mod Commits
 pub mod Worlds

@@ -18,7 +18,7 @@ use Rattle.eid_chip.specs.declared.naming.Named.TheVariants.{Fragment, Ends}
 use Rattle.eid_chip.specs.declared.naming.Last.{Last}
 use Rattle.eid_chip.specs.declared.naming.Last.TheVariants.{Of, ByProtocol}
 use Rattle.eid_chip.specs.declared.refusal.Refusal.{Refusal}
-use Rattle.eid_chip.specs.declared.session.Run.{Run}
+use Rattle.eid_chip.specs.declared.session.Session.{Session}
 use Rattle.eid_chip.specs.States.{next_of}
 use Rattle.eid_chip.specs.Steps.{refusal, refusal_by, with_command}
 
@@ -33,14 +33,14 @@ abbrev pub with_body : PlainCommand → List ℕ → PlainCommand
 with_body c body = record c { body = body }
 
 -- the command ends a request, whose kind where the run stands is so determined, and it is the run's turn for it
-pub record IsLast (run : Run) (c : PlainCommand) (last : Last) : Type 0 where
+pub record IsLast (session : Session) (c : PlainCommand) (last : Last) : Type 0 where
   pub whole : is_fragment c ≡ false
-  pub kind_is : (body : List ℕ) → kind_named (next_of run) (with_body c body) ≡ Some (kind_by last body)
-  pub turn : (body : List ℕ) → goes_on_in_run (kind_by last body) ≡ true → next_of run ≡ Some (kind_by last body)
+  pub kind_is : (body : List ℕ) → kind_named (next_of session) (with_body c body) ≡ Some (kind_by last body)
+  pub turn : (body : List ℕ) → goes_on_in_run (kind_by last body) ≡ true → next_of session ≡ Some (kind_by last body)
 
-abbrev pub IsNamedAs : Run → PlainCommand → Named → Type 0
-IsNamedAs run c Fragment = is_fragment c ≡ true
-IsNamedAs run c (Ends last) = IsLast run c last
+abbrev pub IsNamedAs : Session → PlainCommand → Named → Type 0
+IsNamedAs session c Fragment = is_fragment c ≡ true
+IsNamedAs session c (Ends last) = IsLast session c last
 
 -- class, instruction and parameters are those of some kind
 abbrev pub Passes : PlainCommand → Type 0
@@ -48,8 +48,8 @@ Passes c = (kept : FullRecord) (old : State) (answers : List Answer) → refusal
 
 -- What the command is where the run stands; or the refusal of its class, its instruction or its parameters, which ends no
 -- session.
-pub record IsNamed (run : Run) (c : PlainCommand) (result : Result Named Refusal) : Type 0 where
-  pub named : IfOk result (IsNamedAs run c)
+pub record IsNamed (session : Session) (c : PlainCommand) (result : Result Named Refusal) : Type 0 where
+  pub named : IfOk result (IsNamedAs session c)
   pub passed : OnOk result (Passes c)
   pub refused : IfErr result (λ r. (kept : FullRecord) (old : State) (answers : List Answer)
       → refusal_by naming_rules (with_command kept old c answers) ≡ Some (refusal r))

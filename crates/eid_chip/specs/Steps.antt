@@ -33,6 +33,8 @@ use Rattle.eid_chip.specs.Transitions.{state_answered, state_by_kind, state_carr
 use Rattle.eid_chip.specs.declared.session.Session.{Session}
 use Rattle.eid_chip.specs.declared.session.Change.{Change}
 use Rattle.eid_chip.specs.declared.session.Memory.{Memory}
+use Rattle.eid_chip.specs.declared.session.Authentication.{Authentication}
+use Rattle.eid_chip.specs.declared.session.Authentication.TheVariants.{NotBegun}
 use Rattle.eid_chip.specs.declared.session.Run.TheVariants as runs
 use Rattle.eid_pace.specs.States.{PlainDone}
 use Rattle.eid_ca.specs.States.{PlainProven}
@@ -40,9 +42,7 @@ use Rattle.eid_cvc.specs.Chains.{no_chain}
 use Rattle.eid_pace.specs.declared.agreed.Agreed.{Agreed}
 use Rattle.eid_chip.specs.States.{chained, state}
 use Rattle.eid_chip.specs.declared.refusal.Refusal.{Refusal}
-use Rattle.eid_chip.specs.declared.reaction.Reaction.{Reaction}
-use Rattle.eid_chip.specs.declared.reaction.Ending.{Ending}
-use Rattle.eid_chip.specs.declared.reaction.Ending.TheVariants.{Answered, Lost}
+use Rattle.eid_chip.specs.Endings.{Reacted, Ended, Answered, Lost}
 use Rattle.eid_chip.specs.Held.{held}
 use Rattle.eid_chip.specs.Commits.{SameLayout}
 use Rattle.eid_chip.specs.Worlds.{World, Leaves}
@@ -73,16 +73,16 @@ known kind kept old c answers =
     record { incoming = OfCommand c; unbroken = true; command = c; kind = Some kind; kept = kept; state = old; answers = answers }
 
 -- what a step answered
-abbrev pub outcome_seen : Reaction → PlainReply → Outcome
-outcome_seen r reply = record { rule = r.rule.0; reply = reply }
+abbrev pub outcome_seen : Reacted → PlainReply → Outcome
+outcome_seen r reply = record { rule = r.rule; reply = reply }
 
 -- the channel after a step: the one that it opened, or the one before, two messages later; none where the session ended
-abbrev pub channel_left : Reaction → Option ChannelState → Option ChannelState
+abbrev pub channel_left : Reacted → Option ChannelState → Option ChannelState
 channel_left r channel =
-    if ends_session_by r.rule.0 then None else option_or r.opened (option_map two_messages_later channel)
+    if ends_session_by r.rule then None else option_or r.opened (option_map two_messages_later channel)
 
 -- the state after a step
-abbrev pub state_left : Reaction → Option ChannelState → State
+abbrev pub state_left : Reacted → Option ChannelState → State
 state_left r channel = state r.session (channel_left r channel)
 
 -- the state that a moment leaves: a fresh one where it ends the session
@@ -91,35 +91,35 @@ state_due rule answered = if ends_session_by rule then fresh else answered
 
 -- a command of a known kind put these questions, was answered by the first failed of the kind's rules and those over
 -- the answers, and left this state
-pub record IsAnsweredByKind (kind : Kind) (kept : FullRecord) (old : State) (c : PlainCommand) (asks : List Ask) (reaction : Reaction)
+pub record IsAnsweredByKind (kind : Kind) (kept : FullRecord) (old : State) (c : PlainCommand) (asks : List Ask) (reacted : Reacted)
     (reply : PlainReply) : Type 0 where
   pub asked : AreAsked (λ answers. question_by kind_rules (known kind kept old c answers)) [] asks
-  pub ended : outcome_of kind_rules (known kind kept old c (answers_of asks)) ≡ outcome_seen reaction reply
-  pub left : state_left reaction old.channel ≡ state_due reaction.rule.0 (state_by_kind kept.fields reaction.rule.0 kind c (answers_of asks) old)
+  pub ended : outcome_of kind_rules (known kind kept old c (answers_of asks)) ≡ outcome_seen reacted reply
+  pub left : state_left reacted old.channel ≡ state_due reacted.rule (state_by_kind kept.fields reacted.rule kind c (answers_of asks) old)
 
 -- a command of a known kind put questions, by which the log grew, and was answered by them, in any channel
-pub record Stepped (before after : CoproSeen) (kind : Kind) (kept : FullRecord) (session : Session) (c : PlainCommand) (reaction : Reaction)
+pub record Stepped (before after : CoproSeen) (kind : Kind) (kept : FullRecord) (session : Session) (c : PlainCommand) (reacted : Reacted)
     (reply : PlainReply) : Type 0 where
   pub asks : List Ask
   pub were_asked : WereAsked before after asks
-  pub tells : (channel : Option ChannelState) → IsAnsweredByKind kind kept (state session channel) c asks reaction reply
+  pub tells : (channel : Option ChannelState) → IsAnsweredByKind kind kept (state session channel) c asks reacted reply
 
 -- ---- how a command ends that may commit
 
 -- how it ended where these effects were due: all of them were committed, and it was answered by this outcome; or fewer,
 -- and the power was cut in the next one
-abbrev pub IsEnding : List PlainEffect → Outcome → Ending → PlainReply → Type 0
-IsEnding due outcome (Answered reaction finished) reply = (finished ≡ length due) × (outcome ≡ outcome_seen reaction reply)
+abbrev pub IsEnding : List PlainEffect → Outcome → Ended → PlainReply → Type 0
+IsEnding due outcome (Answered reacted finished) reply = (finished ≡ length due) × (outcome ≡ outcome_seen reacted reply)
 IsEnding due outcome (Lost finished) reply = finished < length due
 
 -- the state after it, where it was answered: what the session is then, with these fragments
-abbrev pub IsNext : (ℕ → State) → Ending → Option ChannelState → Option OpenChain → Type 0
-IsNext next (Answered reaction finished) channel chaining = chained chaining (state_left reaction channel) ≡ state_due reaction.rule.0 (next reaction.rule.0)
+abbrev pub IsNext : (ℕ → State) → Ended → Option ChannelState → Option OpenChain → Type 0
+IsNext next (Answered reacted finished) channel chaining = chained chaining (state_left reacted channel) ≡ state_due reacted.rule (next reacted.rule)
 IsNext next (Lost finished) channel chaining = Unit {0}
 
 -- a command of a known kind put these questions, committed what was due, was answered by the rules of its kind and those
 -- over the answers, and left this state and this world
-pub record IsEndedByKind (kind : Kind) (old : State) (c : PlainCommand) (asks : List Ask) (ending : Ending) (reply : PlainReply)
+pub record IsEndedByKind (kind : Kind) (old : State) (c : PlainCommand) (asks : List Ask) (ending : Ended) (reply : PlainReply)
     (before after : World) : Type 0 where
   pub asked : AreAsked (λ answers. question_by kind_rules (known kind (held before.cells) old c answers)) [] asks
   pub ended : IsEnding (due_by kind_rules (known kind (held before.cells) old c (answers_of asks)))
@@ -160,8 +160,8 @@ pub record SendsToken (c : PlainCommand) (token : List ℕ) : Type 0 where
   pub is : token ≡ data_in c.body
 
 -- a session whose run has come to the tokens
-abbrev pub at_tokens : Agreed → Memory → Session
-at_tokens agreed memory = record { run = runs.Agreed agreed; memory = memory }
+abbrev pub at_tokens : Agreed → Authentication → Memory → Session
+at_tokens agreed authentication memory = record { run = runs.Agreed agreed; authentication = authentication; memory = memory }
 
 -- the keys that a chip authentication leaves
 abbrev pub chip_keys : PlainProven → Keys
@@ -186,10 +186,10 @@ state_with_pace old done = record {
 -- the state after a chip authentication, in the channel that it opened
 abbrev pub state_with_chip : Memory → PlainProven → State
 state_with_chip old proven =
-    record (state (record { run = runs.Idle; memory = old }) None) { chip_proven = true; channel = Some (channel_after 0 (chip_keys proven)) }
+    record (state (record { run = runs.Idle; authentication = NotBegun; memory = old }) None) { chip_proven = true; channel = Some (channel_after 0 (chip_keys proven)) }
 
 -- and so in any channel, with the questions by which the coprocessor's log grew
-pub record Performed (kind : Kind) (session : Session) (c : PlainCommand) (ending : Ending) (reply : PlainReply) (before after : World) : Type 0 where
+pub record Performed (kind : Kind) (session : Session) (c : PlainCommand) (ending : Ended) (reply : PlainReply) (before after : World) : Type 0 where
   pub asks : List Ask
   pub were_asked : WereAsked before.copro after.copro asks
   pub ended : (channel : Option ChannelState) → IsEndedByKind kind (state session channel) c asks ending reply before after
@@ -197,7 +197,7 @@ pub record Performed (kind : Kind) (session : Session) (c : PlainCommand) (endin
 
 -- what was incoming put these questions, committed what was due, was answered by the first failed rule, and left this state
 -- with these fragments, and this world
-pub record IsEndedByRules (old : State) (incoming : Incoming) (asks : List Ask) (ending : Ending) (reply : PlainReply)
+pub record IsEndedByRules (old : State) (incoming : Incoming) (asks : List Ask) (ending : Ended) (reply : PlainReply)
     (chaining : Option OpenChain) (before after : World) : Type 0 where
   pub asked : AreAsked (λ answers. question (situation (held before.cells) old incoming answers)) [] asks
   pub ended : IsEnding (due (situation (held before.cells) old incoming (answers_of asks)))
@@ -206,7 +206,7 @@ pub record IsEndedByRules (old : State) (incoming : Incoming) (asks : List Ask) 
   pub leaves : Leaves (due (situation (held before.cells) old incoming (answers_of asks))) (held before.cells) ending before after
 
 -- and so a command, with these fragments before it, in any channel
-pub record Reacts (session : Session) (fragments : Option OpenChain) (c : PlainCommand) (ending : Ending) (reply : PlainReply)
+pub record Reacts (session : Session) (fragments : Option OpenChain) (c : PlainCommand) (ending : Ended) (reply : PlainReply)
     (left : Option OpenChain) (before after : World) : Type 0 where
   pub asks : List Ask
   pub were_asked : WereAsked before.copro after.copro asks
@@ -214,16 +214,16 @@ pub record Reacts (session : Session) (fragments : Option OpenChain) (c : PlainC
   pub layout : SameLayout before.cells after.cells
 
 -- a refusal before the kind is known, or without one: it puts no question and commits nothing
-pub record IsAnsweredByRules (kept : FullRecord) (old : State) (incoming : Incoming) (asks : List Ask) (reaction : Reaction) (reply : PlainReply) : Type 0 where
+pub record IsAnsweredByRules (kept : FullRecord) (old : State) (incoming : Incoming) (asks : List Ask) (reacted : Reacted) (reply : PlainReply) : Type 0 where
   pub asked : AreAsked (λ answers. question (situation kept old incoming answers)) [] asks
-  pub ended : outcome (situation kept old incoming (answers_of asks)) ≡ outcome_seen reaction reply
+  pub ended : outcome (situation kept old incoming (answers_of asks)) ≡ outcome_seen reacted reply
   pub undue : due (situation kept old incoming (answers_of asks)) ≡ []
-  pub left : state_left reaction old.channel ≡ state_due reaction.rule.0 (state_answered kept.fields reaction.rule.0 (kind_incoming old incoming) (command_of incoming)
+  pub left : state_left reacted old.channel ≡ state_due reacted.rule (state_answered kept.fields reacted.rule (kind_incoming old incoming) (command_of incoming)
       (answers_of asks) old)
 
 -- bytes were incoming, in a channel or without one, with these fragments before them, and the command ended so
 pub record Responds (session : Session) (channel : Option ChannelState) (fragments : Option OpenChain) (bytes : List ℕ)
-    (plain : Option PlainCommand) (ending : Ending) (reply : PlainReply) (left : Option OpenChain) (before after : World) : Type 0 where
+    (plain : Option PlainCommand) (ending : Ended) (reply : PlainReply) (left : Option OpenChain) (before after : World) : Type 0 where
   pub incoming : Incoming
   pub reads : IsReadAs channel bytes incoming
   pub is_plain : plain ≡ plain_of incoming
@@ -233,8 +233,8 @@ pub record Responds (session : Session) (channel : Option ChannelState) (fragmen
   pub layout : SameLayout before.cells after.cells
 
 -- the rule that a command was answered by; 0 where it was not answered
-abbrev pub rule_of : Ending → ℕ
-rule_of (Answered reaction finished) = reaction.rule.0
+abbrev pub rule_of : Ended → ℕ
+rule_of (Answered reacted finished) = reacted.rule
 rule_of (Lost finished) = 0
 
 -- the channel while the answer is made: where a protected command was incoming, one message later

@@ -17,7 +17,8 @@ ghost use Rattle.eid_trust.specs.View.{accepted_view};
 ghost use Rattle.eid_model.specs.Bodies.{key_name_in, NamesKey};
 ghost use Rattle.eid_chip.specs.Commits.{SameLayout};
 ghost use Rattle.eid_chip.specs.Held.{held};
-ghost use Rattle.eid_chip.specs.States.{next_of, state};
+ghost use Rattle.eid_chip.specs.Endings.{ended, reacted};
+ghost use Rattle.eid_chip.specs.States.{next_in_run, state};
 ghost use Rattle.eid_chip.specs.Steps.{Imports, IsAnsweredByKind, IsEndedByKind, Performed, WasRight};
 ghost use Rattle.eid_chip.specs.Worlds.{world};
 
@@ -62,13 +63,14 @@ fn key_name(body: &[u8]) -> Option<&[u8]>
 /// form, rule 20 that there is no PACE, rule 21 that it had no template, rule 22 that a terminal has authenticated itself,
 /// rule 23 that neither a trust point nor the document verifier accepted last has this name.
 pub fn select_public_key(
-    session: Session,
+    session: &mut Session,
     kept: &Record,
     c: &Command<'_>,
     reply: &mut Reply,
 ) -> Reaction
     ensures told { (full : FullRecord) (channel : Option ChannelState) → full.fields ≡ record_view kept.now
-        → IsAnsweredByKind Kind.SelectPublicKey full (state session channel) (plain_command c.now) [] result (plain_reply reply.new) }
+        → IsAnsweredByKind Kind.SelectPublicKey full (state session.old channel) (plain_command c.now) [] (reacted result session.new)
+        (plain_reply reply.new) }
     ensures small { array_vec_len reply.new.content ≤ 2048 }
 {
     let Some(name) = key_name(c.body) else {
@@ -86,11 +88,8 @@ pub fn select_public_key(
     let None = signer(kept, &session.memory.certificates, name) else {
         let mut chosen = ArrayVec::new();
         chosen.try_extend_from_slice(name).unwrap();
-        let session = Session {
-            run: Run::KeyChosen(chosen),
-            memory: session.memory,
-        };
-        return carried_out(session, reply);
+        session.go_on(Run::KeyChosen(chosen));
+        return carried_out(reply);
     };
     refused(UNKNOWN_KEY, session, reply)
 }
@@ -98,7 +97,7 @@ pub fn select_public_key(
 /// The end of an import whose signature is right: the certificate counts, and what it advances is committed.
 fn enter<E: Eeprom>(
     accepted: Accepted,
-    session: Session,
+    session: &mut Session,
     store: &mut Store,
     cells: &mut E,
     reply: &mut Reply,
@@ -106,16 +105,20 @@ fn enter<E: Eeprom>(
     requires fits { stored.Fits store.old (E.device cells.old) (E.cells cells.old) }
     requires effect { IfSome accepted.advance (λ effect. CanApply (effect_view effect) (stored.fields_of store.old)) }
     ensures ended { (before after : CoproSeen) (channel : Option ChannelState) (c : PlainCommand) (asks : List Ask)
-        → WasRight (held (E.cells cells.old)) (state session channel) c (accepted_view accepted) asks
-        → IsEndedByKind Kind.VerifyCertificate (state session channel) c asks result (plain_reply reply.new)
+        → WasRight (held (E.cells cells.old)) (state session.old channel) c (accepted_view accepted) asks
+        → IsEndedByKind Kind.VerifyCertificate (state session.old channel) c asks (ended result session.new) (plain_reply reply.new)
         (world before store.old (E.device cells.old) (E.cells cells.old)) (world after store.new (E.device cells.new) (E.cells cells.new)) }
     ensures layout { SameLayout (E.cells cells.old) (E.cells cells.new) }
+    ensures idle { session.new.run ≡ Run.Idle }
     ensures small { array_vec_len reply.new.content ≤ 2048 }
 {
     let change = Change::Certificates(accepted.chain);
     match accepted.advance {
         Some(effect) => commit_one(&effect, change, session, store, cells, reply),
-        None => uncommitted(carried_out(session.leaving(change), reply)),
+        None => {
+            session.leave(change);
+            uncommitted(carried_out(reply))
+        }
     }
 }
 
@@ -125,7 +128,7 @@ fn enter<E: Eeprom>(
 fn import<E: Eeprom, C: Coprocessor>(
     certificate: &Certificate<'_>,
     accepted: Accepted,
-    session: Session,
+    session: &mut Session,
     store: &mut Store,
     cells: &mut E,
     copro: &mut C,
@@ -136,10 +139,11 @@ fn import<E: Eeprom, C: Coprocessor>(
     requires effect { IfSome accepted.advance (λ effect. CanApply (effect_view effect) (stored.fields_of store.old)) }
     ensures performed { (c : PlainCommand)
         → ((channel : Option ChannelState)
-        → Imports (held (E.cells cells.old)) (state session channel) c (certificate_view certificate.now) (accepted_view accepted))
-        → Performed Kind.VerifyCertificate session c result (plain_reply reply.new)
+        → Imports (held (E.cells cells.old)) (state session.old channel) c (certificate_view certificate.now) (accepted_view accepted))
+        → Performed Kind.VerifyCertificate session.old c (ended result session.new) (plain_reply reply.new)
         (world (C.seen copro.old) store.old (E.device cells.old) (E.cells cells.old))
         (world (C.seen copro.new) store.new (E.device cells.new) (E.cells cells.new)) }
+    ensures idle { session.new.run ≡ Run.Idle }
     ensures small { array_vec_len reply.new.content ≤ 2048 }
 {
     let digest = Sha256::digest(certificate.whole);
@@ -154,7 +158,7 @@ fn import<E: Eeprom, C: Coprocessor>(
 /// is no certificate, the rules 42 to 45 are those of `eid_trust::accept`, rule 50 is a fault of the coprocessor, rule 53 a
 /// wrong signature, rule 54 that there is no commit number left for what it advances.
 pub fn verify_certificate<E: Eeprom, C: Coprocessor>(
-    session: Session,
+    session: &mut Session,
     store: &mut Store,
     cells: &mut E,
     copro: &mut C,
@@ -163,10 +167,11 @@ pub fn verify_certificate<E: Eeprom, C: Coprocessor>(
 ) -> Ending
     requires fits { stored.Fits store.old (E.device cells.old) (E.cells cells.old) }
     requires room { 2 ≤ (C.seen copro.old).spare }
-    requires turn { next_of session.run ≡ Some Kind.VerifyCertificate }
-    ensures performed { Performed Kind.VerifyCertificate session (plain_command c.now) result (plain_reply reply.new)
+    requires turn { next_in_run session.old.run ≡ Some Kind.VerifyCertificate }
+    ensures performed { Performed Kind.VerifyCertificate session.old (plain_command c.now) (ended result session.new) (plain_reply reply.new)
         (world (C.seen copro.old) store.old (E.device cells.old) (E.cells cells.old))
         (world (C.seen copro.new) store.new (E.device cells.new) (E.cells cells.new)) }
+    ensures idle { session.new.run ≡ Run.Idle }
     ensures small { array_vec_len reply.new.content ≤ 2048 }
 {
     let Run::KeyChosen(name) = &session.run else {

@@ -3,85 +3,62 @@ ghost use Rattle.std.specs.Prelude.{◌≡◌, ◌≢◌, ◌≤◌, ◌↔◌, 
 ghost use Rattle.std.specs.Option.{option_or};
 ghost use Rattle.arrayvec.specs.ArrayVec.{array_vec_len};
 ghost use Rattle.eid_apdu.specs.Command.{plain_command};
-ghost use Rattle.eid_apdu.specs.Chaining.{is_fragment};
 ghost use Rattle.eid_apdu.specs.Answer.{plain_reply};
 ghost use Rattle.eid_record.specs.Plain.{FullRecord};
 ghost use Rattle.eid_cells.specs.Device.{Device};
-ghost use Rattle.eid_copro.specs.Seen.{CoproSeen};
 ghost use Rattle.eid_store.specs.Durable.{Mounts};
 ghost use Rattle.eid_store.specs.Store as stored;
 ghost use Rattle.eid_store.specs.Store.{mount_cost};
 ghost use Rattle.eid_store.specs.Stands.{stands};
-ghost use Rattle.eid_sm.specs.Plain.{plain_of};
 ghost use Rattle.eid_model.specs.Moments.{PoweredOn, PoweredOff, ends_session_by};
 ghost use Rattle.eid_model.specs.Kinds.{goes_on_in_run};
 ghost use Rattle.eid_model.specs.Rules.{committing, concerns};
-ghost use Rattle.eid_model.specs.Runs.{is_piece_of_next};
 ghost use Rattle.eid_model.specs.Legal.{silent};
 ghost use Rattle.eid_chip.specs.Commits.{MOST_MOUNTING};
+ghost use Rattle.eid_chip.specs.Endings.{ended, left_by, powered, reacted};
 ghost use Rattle.eid_chip.specs.Held.{held};
-ghost use Rattle.eid_chip.specs.Naming.{IsLast, Passes};
-ghost use Rattle.eid_sm.specs.Keys.{ChannelState};
-ghost use Rattle.eid_chip.specs.States.{next_of, state};
-ghost use Rattle.eid_chip.specs.Transitions.{state_later, state_piece};
-ghost use Rattle.eid_chip.specs.Tries.{IsTryLeft};
+ghost use Rattle.eid_chip.specs.States.{next_of};
+ghost use Rattle.eid_chip.specs.Tries.{IsIdleIfLost, IsTryLeft};
 ghost use Rattle.eid_chip.specs.Worlds.{IsMounted, world};
 ghost use Rattle.eid_chip.specs.Steps.{Performed, Reacts, Responds, Stepped, message_in, rule_of, sent_next};
-ghost use Rattle.eid_chip.specs.Fits.{plain_in};
+ghost use Rattle.eid_chip.specs.Fits.{Handles, came_in, plain_in, scene};
 
 use crate::certificates::{select_public_key, verify_certificate};
 use crate::chip_authentication::{authenticate_chip, select_chip_authentication};
-use crate::ending::{carried_out, ends_session, refused, uncommitted};
+use crate::ending::{ends_session, refused, uncommitted};
 use crate::exchange::{Exchange, Handled, HandledIn};
-use crate::naming::{Last, Named, kind_of, name_command};
+use crate::incoming::read_incoming;
+use crate::naming::{Named, kind_of, name_command};
 use crate::pace::{
     encrypted_nonce, map_nonce, mutual_authentication, perform_key_agreement, select_pace,
 };
 use crate::pin::{change_can, change_pin, set_active, unblock_pin};
 use crate::reaction::{Ending, Reaction, Response};
-use crate::refusal::{
-    BODY_FORM, BROKEN_CHAIN, LONG_REQUEST, NO_COMMAND, NO_OBJECTS, NO_STEP, WRONG_OBJECTS,
-};
+use crate::refusal::{BODY_FORM, NO_STEP};
+use crate::request::{end_request, request_of, take_fragment};
 use crate::restricted_identification::{
     perform_restricted_identification, select_restricted_identification,
 };
 use crate::running::Running;
 use crate::select::{read_binary, select_application, select_file, select_master_file};
-use crate::session::{Run, Session};
+use crate::session::Session;
 use crate::terminal::{announce_terminal, external_authenticate, get_challenge};
 use crate::update::update_binary;
 use crate::verify::verify_auxiliary;
 use arrayvec::ArrayVec;
-use eid_apdu::{Chain, Command, Fed, MAX_REQUEST, Reply, read_command, write_reply};
+use eid_apdu::{Chain, Command, MAX_REQUEST, Reply, write_reply};
 use eid_base::Rule;
 use eid_cells::Eeprom;
 use eid_copro::Coprocessor;
 use eid_model::{Kind, MAX_BODY};
-use eid_sm::{Channel, Header, SmError};
+use eid_sm::Channel;
 use eid_store::{MountError, Store};
 use std::marker::Model;
-use std::mem;
-
-/// A command as its header, and its body on its own.
-fn apart(c: &Command<'_>, body: &mut ArrayVec<u8, MAX_BODY>) -> Header
-    requires { length c.now.body.now ≤ MAX_BODY }
-    ensures { plain_of result body.new.items ≡ plain_command c.now }
-{
-    body.clear();
-    body.try_extend_from_slice(c.body).unwrap();
-    Header {
-        cla: c.cla,
-        ins: c.ins,
-        p1: c.p1,
-        p2: c.p2,
-        ne: c.ne,
-    }
-}
 
 /// Carries out a command of a kind that never commits, or refuses it by the first failed rule of its kind.
 fn perform_uncommitted<E: Eeprom, C: Coprocessor>(
     kind: Kind,
-    session: Session,
+    session: &mut Session,
     store: &Store,
     cells: &E,
     copro: &mut C,
@@ -90,12 +67,11 @@ fn perform_uncommitted<E: Eeprom, C: Coprocessor>(
 ) -> Reaction
     requires mounted { IsMounted (world (C.seen copro.old) store.now (E.device cells.now) (E.cells cells.now)) }
     requires room { 2 ≤ (C.seen copro.old).spare }
-    requires turn { goes_on_in_run kind ≡ true → next_of session.run ≡ Some kind }
+    requires turn { goes_on_in_run kind ≡ true → next_of session.old ≡ Some kind }
     requires calm { concerns committing (Some kind) ≡ false }
     requires short { length c.now.body.now ≤ 2048 }
-    requires try_left { IsTryLeft session.run (stored.fields_of store.now) }
-    ensures stepped { Stepped (C.seen copro.old) (C.seen copro.new) kind (held (E.cells cells.now)) session (plain_command c.now) result
-        (plain_reply reply.new) }
+    ensures stepped { Stepped (C.seen copro.old) (C.seen copro.new) kind (held (E.cells cells.now)) session.old (plain_command c.now)
+        (reacted result session.new) (plain_reply reply.new) }
     ensures small { array_vec_len reply.new.content ≤ 2048 }
 {
     match kind {
@@ -136,7 +112,7 @@ fn perform_uncommitted<E: Eeprom, C: Coprocessor>(
 /// Carries out a command of this kind with its commits, or refuses it by the first failed rule of its kind.
 fn perform<E: Eeprom, C: Coprocessor>(
     kind: Kind,
-    session: Session,
+    session: &mut Session,
     store: &mut Store,
     cells: &mut E,
     copro: &mut C,
@@ -145,12 +121,13 @@ fn perform<E: Eeprom, C: Coprocessor>(
 ) -> Ending
     requires mounted { IsMounted (world (C.seen copro.old) store.old (E.device cells.old) (E.cells cells.old)) }
     requires room { 2 ≤ (C.seen copro.old).spare }
-    requires turn { goes_on_in_run kind ≡ true → next_of session.run ≡ Some kind }
+    requires turn { goes_on_in_run kind ≡ true → next_of session.old ≡ Some kind }
     requires short { length c.now.body.now ≤ 2048 }
-    requires try_left { IsTryLeft session.run (stored.fields_of store.old) }
-    ensures performed { Performed kind session (plain_command c.now) result (plain_reply reply.new)
+    requires try_left { IsTryLeft session.old.run (stored.fields_of store.old) }
+    ensures performed { Performed kind session.old (plain_command c.now) (ended result session.new) (plain_reply reply.new)
         (world (C.seen copro.old) store.old (E.device cells.old) (E.cells cells.old))
         (world (C.seen copro.new) store.new (E.device cells.new) (E.cells cells.new)) }
+    ensures lost { IsIdleIfLost result session.new.run }
     ensures small { array_vec_len reply.new.content ≤ 2048 }
 {
     match kind {
@@ -166,278 +143,76 @@ fn perform<E: Eeprom, C: Coprocessor>(
     }
 }
 
-/// The request that ends with a command, of which this is the whole body.
-fn whole_request<'a>(c: &Command<'_>, body: &'a [u8]) -> Command<'a>
-    ensures { plain_command result ≡ record (plain_command c.now) { body = body.now } }
-{
-    Command {
-        cla: c.cla,
-        ins: c.ins,
-        p1: c.p1,
-        p2: c.p2,
-        body,
-        ne: c.ne,
-    }
-}
-
-/// Whether a fragment is one of the request that comes next in the run: only certificates come in fragments.
-fn is_piece_of_next(run: &Run, c: &Command<'_>) -> bool
-    requires fragment { is_fragment (plain_command c.now) ≡ true }
-    ensures { result ≡ is_piece_of_next (next_of run.now) (Some (plain_command c.now)) }
-{
-    match run {
-        Run::Idle => false,
-        Run::Chosen(_) => false,
-        Run::NonceSent(_) => false,
-        Run::Mapped(_) => false,
-        Run::Agreed(_) => false,
-        Run::Announced { .. } => false,
-        Run::Challenged { .. } => false,
-        Run::CaChosen(_) => false,
-        Run::RiChosen => false,
-        Run::KeyChosen(_) => c.ins == 0x2a && u16::from(c.p1) * 256 + u16::from(c.p2) == 0x00be,
-    }
-}
-
-/// The session after a fragment: its run goes on where the request comes next in it.
-fn after_fragment(session: Session, c: &Command<'_>) -> Session
-    requires fragment { is_fragment (plain_command c.now) ≡ true }
-    ensures { (channel : Option ChannelState) → state_later (state result channel) ≡ state_piece (plain_command c.now) (state session channel) }
-{
-    if is_piece_of_next(&session.run, c) {
-        session
-    } else {
-        session.without_run()
-    }
-}
-
-/// Takes a fragment, and answers 9000. Rule 7 is that it does not go on with the open chain, rule 8 that the request is then
-/// too long. It ends the run, but one whose next step the request is.
-fn take_fragment(
-    session: Session,
-    chain: &mut Chain<MAX_REQUEST>,
-    c: &Command<'_>,
-    reply: &mut Reply,
-) -> Ending
-    requires fragment { is_fragment (plain_command c.now) ≡ true }
-    requires passes { Passes (plain_command c.now) }
-    ensures reacts { (copro : CoproSeen) (store : Store) (device : Device) (cells : List ℕ) → stored.Fits store device cells
-        → Reacts session chain.old.pending (plain_command c.now) result (plain_reply reply.new) chain.new.pending
-        (world copro store device cells) (world copro store device cells) }
-    ensures small { array_vec_len reply.new.content ≤ 2048 }
-{
-    match chain.feed(c) {
-        Fed::More => uncommitted(carried_out(after_fragment(session, c), reply)),
-        Fed::Broken => uncommitted(refused(BROKEN_CHAIN, session, reply)),
-        Fed::TooLong => uncommitted(refused(LONG_REQUEST, session, reply)),
-        Fed::Whole => unreachable!(),
-    }
-}
-
-/// Answers the last command of a request that was begun in fragments. Rule 7 is that it does not go on with
-/// them, rule 8 that the request is too long.
-fn end_chain<E: Eeprom, C: Coprocessor>(
-    last: Last,
-    session: Session,
-    chain: &mut Chain<MAX_REQUEST>,
-    store: &mut Store,
-    cells: &mut E,
-    copro: &mut C,
-    c: &Command<'_>,
-    reply: &mut Reply,
-) -> Ending
-    requires mounted { IsMounted (world (C.seen copro.old) store.old (E.device cells.old) (E.cells cells.old)) }
-    requires room { 2 ≤ (C.seen copro.old).spare }
-    requires last { IsLast session.run (plain_command c.now) last }
-    requires passes { Passes (plain_command c.now) }
-    requires try_left { IsTryLeft session.run (stored.fields_of store.old) }
-    ensures reacts { Reacts session chain.old.pending (plain_command c.now) result (plain_reply reply.new) chain.new.pending
-        (world (C.seen copro.old) store.old (E.device cells.old) (E.cells cells.old))
-        (world (C.seen copro.new) store.new (E.device cells.new) (E.cells cells.new)) }
-    ensures small { array_vec_len reply.new.content ≤ 2048 }
-{
-    match chain.feed(c) {
-        Fed::Whole => {
-            let request = whole_request(c, chain.body());
-            let kind = kind_of(last, request.body);
-            perform(kind, session, store, cells, copro, &request, reply)
-        }
-        Fed::Broken => uncommitted(refused(BROKEN_CHAIN, session, reply)),
-        Fed::TooLong => uncommitted(refused(LONG_REQUEST, session, reply)),
-        Fed::More => unreachable!(),
-    }
-}
-
-/// Answers the last command of a request. Where no chain is open it is the request, and nothing is copied;
-/// rule 8 is that it is too long.
-fn answer<E: Eeprom, C: Coprocessor>(
-    last: Last,
-    session: Session,
-    chain: &mut Chain<MAX_REQUEST>,
-    store: &mut Store,
-    cells: &mut E,
-    copro: &mut C,
-    c: &Command<'_>,
-    reply: &mut Reply,
-) -> Ending
-    requires mounted { IsMounted (world (C.seen copro.old) store.old (E.device cells.old) (E.cells cells.old)) }
-    requires room { 2 ≤ (C.seen copro.old).spare }
-    requires last { IsLast session.run (plain_command c.now) last }
-    requires passes { Passes (plain_command c.now) }
-    requires try_left { IsTryLeft session.run (stored.fields_of store.old) }
-    ensures reacts { Reacts session chain.old.pending (plain_command c.now) result (plain_reply reply.new) chain.new.pending
-        (world (C.seen copro.old) store.old (E.device cells.old) (E.cells cells.old))
-        (world (C.seen copro.new) store.new (E.device cells.new) (E.cells cells.new)) }
-    ensures small { array_vec_len reply.new.content ≤ 2048 }
-{
-    if chain.is_open() {
-        return end_chain(last, session, chain, store, cells, copro, c, reply);
-    }
-    if c.body.len() > MAX_REQUEST {
-        return uncommitted(refused(LONG_REQUEST, session, reply));
-    }
-    let kind = kind_of(last, c.body);
-    perform(kind, session, store, cells, copro, c, reply)
-}
-
 /// Carries a command out, or refuses it by the first failed rule.
 fn react<E: Eeprom, C: Coprocessor>(
-    session: Session,
+    running: &mut Running,
     chain: &mut Chain<MAX_REQUEST>,
-    store: &mut Store,
     cells: &mut E,
     copro: &mut C,
     c: &Command<'_>,
     reply: &mut Reply,
 ) -> Ending
-    requires mounted { IsMounted (world (C.seen copro.old) store.old (E.device cells.old) (E.cells cells.old)) }
+    requires mounted { IsMounted (world (C.seen copro.old) running.old.store (E.device cells.old) (E.cells cells.old)) }
     requires room { 2 ≤ (C.seen copro.old).spare }
-    requires try_left { IsTryLeft session.run (stored.fields_of store.old) }
-    ensures reacts { Reacts session chain.old.pending (plain_command c.now) result (plain_reply reply.new) chain.new.pending
-        (world (C.seen copro.old) store.old (E.device cells.old) (E.cells cells.old))
-        (world (C.seen copro.new) store.new (E.device cells.new) (E.cells cells.new)) }
+    ensures reacts { Reacts running.old.session chain.old.pending (plain_command c.now) (ended result running.new.session) (plain_reply reply.new)
+        chain.new.pending
+        (world (C.seen copro.old) running.old.store (E.device cells.old) (E.cells cells.old))
+        (world (C.seen copro.new) running.new.store (E.device cells.new) (E.cells cells.new)) }
+    ensures channel { running.new.channel ≡ running.old.channel }
     ensures small { array_vec_len reply.new.content ≤ 2048 }
 {
-    match name_command(c, &session.run) {
-        Ok(Named::Fragment) => take_fragment(session, chain, c, reply),
-        Ok(Named::Ends(last)) => answer(last, session, chain, store, cells, copro, c, reply),
+    let session = &mut running.session;
+    let last = match name_command(c, session) {
+        Ok(Named::Ends(last)) => last,
+        Ok(Named::Fragment) => return uncommitted(take_fragment(session, chain, c, reply)),
         Err(refusal) => {
             chain.close();
-            uncommitted(refused(refusal, session, reply))
+            return uncommitted(refused(refusal, session, reply));
         }
-    }
-}
-
-/// The response to bytes in which no command was read. No chain is open behind it.
-fn without_command(reaction: Reaction, chain: &mut Chain<MAX_REQUEST>) -> Response
-    ensures response { (result.plain ≡ None) × (result.ending ≡ Ending.Answered reaction 0) }
-    ensures closed { chain.new.pending ≡ None }
-{
-    chain.close();
-    Response {
-        plain: None,
-        ending: uncommitted(reaction),
-    }
-}
-
-/// Reads the bytes of a command without a channel, and answers them.
-fn respond<E: Eeprom, C: Coprocessor>(
-    session: Session,
-    chain: &mut Chain<MAX_REQUEST>,
-    store: &mut Store,
-    cells: &mut E,
-    copro: &mut C,
-    bytes: &[u8],
-    exchange: &mut Exchange,
-) -> Response
-    requires mounted { IsMounted (world (C.seen copro.old) store.old (E.device cells.old) (E.cells cells.old)) }
-    requires room { 2 ≤ (C.seen copro.old).spare }
-    requires try_left { IsTryLeft session.run (stored.fields_of store.old) }
-    ensures responds { Responds session None chain.old.pending bytes.now (plain_in exchange.new result.plain) result.ending
-        (plain_reply exchange.new.reply) chain.new.pending
-        (world (C.seen copro.old) store.old (E.device cells.old) (E.cells cells.old))
-        (world (C.seen copro.new) store.new (E.device cells.new) (E.cells cells.new)) }
-    ensures small { array_vec_len exchange.new.reply.content ≤ 2048 }
-{
-    let Ok(c) = read_command(bytes) else {
-        return without_command(refused(NO_COMMAND, session, &mut exchange.reply), chain);
     };
-    if c.body.len() > MAX_BODY {
-        return without_command(refused(NO_COMMAND, session, &mut exchange.reply), chain);
-    }
-    Response {
-        plain: Some(apart(&c, &mut exchange.body)),
-        ending: react(session, chain, store, cells, copro, &c, &mut exchange.reply),
-    }
+    let is_joined = match end_request(chain, c) {
+        Ok(is_joined) => is_joined,
+        Err(refusal) => return uncommitted(refused(refusal, session, reply)),
+    };
+    let request = request_of(is_joined, chain, c);
+    let kind = kind_of(last, request.body);
+    let store = &mut running.store;
+    perform(kind, session, store, cells, copro, &request, reply)
 }
 
-/// Reads the bytes of a command in a channel, and answers them.
-fn respond_in<E: Eeprom, C: Coprocessor>(
-    channel: &mut Channel,
-    session: Session,
+/// Reads the bytes of a command, in a channel where one is open, and answers them.
+fn respond<E: Eeprom, C: Coprocessor>(
+    running: &mut Running,
     chain: &mut Chain<MAX_REQUEST>,
-    store: &mut Store,
     cells: &mut E,
     copro: &mut C,
     bytes: &[u8],
     exchange: &mut Exchange,
 ) -> Response
-    requires mounted { IsMounted (world (C.seen copro.old) store.old (E.device cells.old) (E.cells cells.old)) }
+    requires mounted { IsMounted (world (C.seen copro.old) running.old.store (E.device cells.old) (E.cells cells.old)) }
     requires room { 2 ≤ (C.seen copro.old).spare }
-    requires try_left { IsTryLeft session.run (stored.fields_of store.old) }
-    ensures responds { Responds session (Some channel.old) chain.old.pending bytes.now (plain_in exchange.new result.plain) result.ending
-        (plain_reply exchange.new.reply) chain.new.pending
-        (world (C.seen copro.old) store.old (E.device cells.old) (E.cells cells.old))
-        (world (C.seen copro.new) store.new (E.device cells.new) (E.cells cells.new)) }
-    ensures channel { Some channel.new ≡ message_in (rule_of result.ending) (Some channel.old) }
+    ensures responds { Responds running.old.session running.old.channel chain.old.pending bytes.now (plain_in exchange.new result.plain)
+        (ended result.ending running.new.session) (plain_reply exchange.new.reply) chain.new.pending
+        (world (C.seen copro.old) running.old.store (E.device cells.old) (E.cells cells.old))
+        (world (C.seen copro.new) running.new.store (E.device cells.new) (E.cells cells.new)) }
+    ensures channel { running.new.channel ≡ message_in (rule_of (ended result.ending running.new.session)) running.old.channel }
     ensures small { array_vec_len exchange.new.reply.content ≤ 2048 }
 {
-    let header = match channel.unwrap(bytes, &mut exchange.body) {
+    let header = match read_incoming(&mut running.channel, bytes, &mut exchange.body) {
         Ok(header) => header,
-        Err(SmError::Missing) => {
-            let reaction = refused(NO_OBJECTS, session, &mut exchange.reply);
-            return without_command(reaction, chain);
-        }
-        Err(SmError::Wrong) => {
-            let reaction = refused(WRONG_OBJECTS, session, &mut exchange.reply);
-            return without_command(reaction, chain);
+        Err(refusal) => {
+            chain.close();
+            let reaction = refused(refusal, &mut running.session, &mut exchange.reply);
+            return Response {
+                plain: None,
+                ending: uncommitted(reaction),
+            };
         }
     };
     let c = header.with_body(exchange.body.as_slice());
     Response {
         plain: Some(header),
-        ending: react(session, chain, store, cells, copro, &c, &mut exchange.reply),
-    }
-}
-
-/// Reads the bytes of a command, in a channel where one is open, and answers them.
-fn respond_any<E: Eeprom, C: Coprocessor>(
-    channel: &mut Option<Channel>,
-    session: Session,
-    chain: &mut Chain<MAX_REQUEST>,
-    store: &mut Store,
-    cells: &mut E,
-    copro: &mut C,
-    bytes: &[u8],
-    exchange: &mut Exchange,
-) -> Response
-    requires mounted { IsMounted (world (C.seen copro.old) store.old (E.device cells.old) (E.cells cells.old)) }
-    requires room { 2 ≤ (C.seen copro.old).spare }
-    requires try_left { IsTryLeft session.run (stored.fields_of store.old) }
-    ensures responds { Responds session channel.old chain.old.pending bytes.now (plain_in exchange.new result.plain) result.ending
-        (plain_reply exchange.new.reply) chain.new.pending
-        (world (C.seen copro.old) store.old (E.device cells.old) (E.cells cells.old))
-        (world (C.seen copro.new) store.new (E.device cells.new) (E.cells cells.new)) }
-    ensures channel { channel.new ≡ message_in (rule_of result.ending) channel.old }
-    ensures small { array_vec_len exchange.new.reply.content ≤ 2048 }
-{
-    match channel {
-        None => respond(session, chain, store, cells, copro, bytes, exchange),
-        Some(channel) => {
-            respond_in(
-                channel, session, chain, store, cells, copro, bytes, exchange,
-            )
-        }
+        ending: react(running, chain, cells, copro, &c, &mut exchange.reply),
     }
 }
 
@@ -457,46 +232,54 @@ fn send(channel: &mut Option<Channel>, rule: Rule, reply: &Reply, out: &mut Arra
     }
 }
 
-/// The channel after a step: the one that the step opened, or the one before.
-fn channel_after(rule: Rule, opened: Option<Channel>, channel: Option<Channel>) -> Option<Channel>
-    ensures { result ≡ (if ends_session_by rule.0 then None else option_or opened channel) }
+/// What a chip with power does with its answer: it is written as it is sent, and the channel kept that the step opened, or
+/// the one before.
+fn finish(reaction: Reaction, channel: &mut Option<Channel>, exchange: &mut Exchange)
+    requires { array_vec_len exchange.old.reply.content ≤ 2048 }
+    ensures sent { exchange.new.sent.items ≡ sent_next channel.old reaction.rule.0 (plain_reply exchange.old.reply) }
+    ensures said { (exchange.new.reply ≡ exchange.old.reply) × (exchange.new.body ≡ exchange.old.body) }
+    ensures channel { channel.new ≡ (if ends_session_by reaction.rule.0 then None
+        else option_or reaction.opened (message_in reaction.rule.0 channel.old)) }
 {
+    let Reaction { rule, opened } = reaction;
+    send(channel, rule, &exchange.reply, &mut exchange.sent);
     if ends_session(rule) {
-        return None;
+        *channel = None;
+        return;
     }
-    match opened {
-        Some(opened) => Some(opened),
-        None => channel,
+    if let Some(opened) = opened {
+        *channel = Some(opened);
     }
 }
 
-/// A chip with power after it answered: the answer is written as it is sent, and the channel kept that the
-/// step opened, or the one before.
-fn go_on(
-    reaction: Reaction,
-    store: Store,
-    channel: Option<Channel>,
+/// Handles the bytes of a command in a chip with power, which has none afterwards where it was lost in a commit.
+fn handle_on<E: Eeprom, C: Coprocessor>(
+    running: &mut Running,
+    chain: &mut Chain<MAX_REQUEST>,
+    cells: &mut E,
+    copro: &mut C,
+    bytes: &[u8],
     exchange: &mut Exchange,
-) -> Running
-    requires small { array_vec_len exchange.old.reply.content ≤ 2048 }
-    requires try_left { IsTryLeft reaction.session.run (stored.fields_of store) }
-    ensures sent { exchange.new.sent.items ≡ sent_next channel reaction.rule.0 (plain_reply exchange.old.reply) }
-    ensures said { (exchange.new.reply ≡ exchange.old.reply) × (exchange.new.body ≡ exchange.old.body) }
-    ensures session { (result.session ≡ reaction.session) × (result.store ≡ store) }
-    ensures channel { result.channel ≡ (if ends_session_by reaction.rule.0 then None
-        else option_or reaction.opened (message_in reaction.rule.0 channel)) }
+) -> HandledIn
+    requires mounted { IsMounted (world (C.seen copro.old) running.old.store (E.device cells.old) (E.cells cells.old)) }
+    requires room { 2 ≤ (C.seen copro.old).spare }
+    ensures handles { Handles (C.seen copro.old) (C.seen copro.new)
+        (scene (powered chain.old.pending running.old) (E.device cells.old) (E.cells cells.old))
+        (scene (left_by result chain.new.pending running.new) (E.device cells.new) (E.cells cells.new)) bytes.now (came_in exchange.new result) }
+    ensures heard { result ≢ HandledIn.Silent }
 {
-    let Reaction {
-        rule,
-        session,
-        opened,
-    } = reaction;
-    let mut channel = channel;
-    send(&mut channel, rule, &exchange.reply, &mut exchange.sent);
-    Running {
-        store,
-        session,
-        channel: channel_after(rule, opened, channel),
+    let Response { plain, ending } = respond(running, chain, cells, copro, bytes, exchange);
+    match ending {
+        Ending::Answered { reaction, finished } => {
+            let rule = reaction.rule;
+            finish(reaction, &mut running.channel, exchange);
+            HandledIn::Answered {
+                plain,
+                finished,
+                rule,
+            }
+        }
+        Ending::Lost { finished } => HandledIn::Lost { plain, finished },
     }
 }
 
@@ -619,35 +402,14 @@ impl Chip {
             (scene self.new (E.device cells.new) (E.cells cells.new)) bytes.now (came_in exchange.new result) }
         ensures unsaid { result ≡ HandledIn.Silent → exchange.new ≡ exchange.old }
     {
-        let Some(running) = mem::replace(&mut self.running, None) else {
+        let Some(running) = &mut self.running else {
             return HandledIn::Silent;
         };
-        let Running {
-            mut store,
-            session,
-            mut channel,
-        } = running;
-        let Response { plain, ending } = respond_any(
-            &mut channel,
-            session,
-            &mut self.chain,
-            &mut store,
-            cells,
-            copro,
-            bytes,
-            exchange,
-        );
-        match ending {
-            Ending::Answered { reaction, finished } => {
-                let rule = reaction.rule;
-                self.running = Some(go_on(reaction, store, channel, exchange));
-                HandledIn::Answered {
-                    plain,
-                    finished,
-                    rule,
-                }
-            }
-            Ending::Lost { finished } => HandledIn::Lost { plain, finished },
+        let came = handle_on(running, &mut self.chain, cells, copro, bytes, exchange);
+        if !came.is_loss() {
+            return came;
         }
+        self.running = None;
+        came
     }
 }

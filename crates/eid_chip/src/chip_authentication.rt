@@ -5,7 +5,8 @@ ghost use Rattle.eid_apdu.specs.Answer.{plain_reply};
 ghost use Rattle.eid_apdu.specs.Command.{plain_command};
 ghost use Rattle.eid_record.specs.Plain.{FullRecord};
 ghost use Rattle.eid_sm.specs.Keys.{ChannelState};
-ghost use Rattle.eid_chip.specs.States.{next_of, state};
+ghost use Rattle.eid_chip.specs.Endings.{reacted};
+ghost use Rattle.eid_chip.specs.States.{next_in_authentication, state};
 ghost use Rattle.eid_record.specs.View.{record_view};
 ghost use Rattle.eid_tlv.specs.Objects.{object};
 ghost use Rattle.eid_ca.specs.View.{proven_view};
@@ -18,7 +19,7 @@ use crate::reaction::Reaction;
 use crate::refusal::{
     BODY_FORM, CHIP_IS_PROVEN, FAULT, NO_PACE, NO_POINT, NO_STEP, NO_TERMINAL, OTHER_KEY,
 };
-use crate::session::{Memory, Run, Session, idle};
+use crate::session::{Authentication, Session};
 use arrayvec::ArrayVec;
 use eid_apdu::{Command, Reply};
 use eid_base::Rule;
@@ -31,9 +32,13 @@ use eid_sm::Channel;
 /// MSE:Set AT for chip authentication: a run begins with its protocol, and the key that the terminal announced. Rule 10 is a
 /// body of another form, rule 20 that there is no PACE, rule 26 that there is no terminal authentication, rule 27 that the
 /// chip has authenticated itself already.
-pub fn select_chip_authentication(session: Session, c: &Command<'_>, reply: &mut Reply) -> Reaction
+pub fn select_chip_authentication(
+    session: &mut Session,
+    c: &Command<'_>,
+    reply: &mut Reply,
+) -> Reaction
     ensures told { (kept : FullRecord) (channel : Option ChannelState)
-        → IsAnsweredByKind Kind.SelectChipAuthentication kept (state session channel) (plain_command c.now) [] result (plain_reply reply.new) }
+        → IsAnsweredByKind Kind.SelectChipAuthentication kept (state session.old channel) (plain_command c.now) [] (reacted result session.new) (plain_reply reply.new) }
     ensures small { array_vec_len reply.new.content ≤ 2048 }
 {
     if !names_chip_authentication(c.body) {
@@ -49,13 +54,10 @@ pub fn select_chip_authentication(session: Session, c: &Command<'_>, reply: &mut
         return refused(CHIP_IS_PROVEN, session, reply);
     }
     match CaChosen::select(c.body, terminal) {
-        Ok(chosen) => carried_out(
-            Session {
-                run: Run::CaChosen(chosen),
-                memory: session.memory,
-            },
-            reply,
-        ),
+        Ok(chosen) => {
+            session.authenticate(Authentication::CaChosen(chosen));
+            carried_out(reply)
+        }
         Err(_) => refused(BODY_FORM, session, reply),
     }
 }
@@ -73,20 +75,18 @@ fn put_proof(proven: &Proven, reply: &mut Reply)
 
 /// The step where the chip has proven its key: the nonce and the token are sent, and the channel has other keys from then
 /// on.
-fn accept(proven: Proven, memory: Memory, reply: &mut Reply) -> Reaction
+fn accept(proven: Proven, session: &mut Session, reply: &mut Reply) -> Reaction
     ensures rule { result.rule.0 ≡ 0 }
     ensures reply { plain_reply reply.new ≡ data_alone (object 0x7C (object 0x81 proven.nonce ++ object 0x82 proven.token)) }
     ensures small { array_vec_len reply.new.content ≤ 2048 }
-    ensures left { (channel : Option ChannelState) → state_left result channel ≡ state_with_chip memory (proven_view proven) }
+    ensures left { (channel : Option ChannelState) → state_left (reacted result session.new) channel ≡ state_with_chip session.old.memory (proven_view proven) }
 {
     put_proof(&proven, reply);
+    session.end_run();
+    session.memory.chip_proven = true;
     Reaction {
         rule: Rule(0),
-        session: idle(Memory {
-            chip_proven: true,
-            ..memory
-        }),
-        opened: Some(Channel::new(proven.enc, proven.mac)),
+        opened: Some(Channel::new(proven.keys)),
     }
 }
 
@@ -94,29 +94,28 @@ fn accept(proven: Proven, memory: Memory, reply: &mut Reply) -> Reaction
 /// token in 82. Rule 10 is a body of another form, rule 41 a point other than the one announced, rule 50 a fault of the
 /// coprocessor, rule 52 that what was agreed is no point.
 pub fn authenticate_chip<C: Coprocessor>(
-    session: Session,
+    session: &mut Session,
     kept: &Record,
     copro: &mut C,
     c: &Command<'_>,
     reply: &mut Reply,
 ) -> Reaction
     requires room { 2 ≤ (C.seen copro.old).spare }
-    requires turn { next_of session.run ≡ Some Kind.AuthenticateChip }
+    requires turn { next_in_authentication session.old.authentication ≡ Some Kind.AuthenticateChip }
     ensures told { (full : FullRecord) → full.fields ≡ record_view kept.now
-        → Stepped (C.seen copro.old) (C.seen copro.new) Kind.AuthenticateChip full session (plain_command c.now) result (plain_reply reply.new) }
+        → Stepped (C.seen copro.old) (C.seen copro.new) Kind.AuthenticateChip full session.old (plain_command c.now) (reacted result session.new) (plain_reply reply.new) }
     ensures small { array_vec_len reply.new.content ≤ 2048 }
 {
     let Some(point) = point_in(c.body, 0x80) else {
         return refused(BODY_FORM, session, reply);
     };
-    let Session { run, memory } = session;
-    let Run::CaChosen(chosen) = run else {
-        return refused(NO_STEP, idle(memory), reply);
+    let Authentication::CaChosen(chosen) = session.take_authentication() else {
+        return refused(NO_STEP, session, reply);
     };
     match chosen.prove(kept, &point, copro) {
-        Ok(proven) => accept(proven, memory, reply),
-        Err(rules::OTHER_KEY) => refused(OTHER_KEY, idle(memory), reply),
-        Err(rules::NO_POINT) => refused(NO_POINT, idle(memory), reply),
-        Err(_) => refused(FAULT, idle(memory), reply),
+        Ok(proven) => accept(proven, session, reply),
+        Err(rules::OTHER_KEY) => refused(OTHER_KEY, session, reply),
+        Err(rules::NO_POINT) => refused(NO_POINT, session, reply),
+        Err(_) => refused(FAULT, session, reply),
     }
 }

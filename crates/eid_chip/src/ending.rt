@@ -6,12 +6,14 @@ ghost use Rattle.eid_model.specs.Answers.{status_alone};
 ghost use Rattle.eid_model.specs.Moments.{ends_session_by};
 ghost use Rattle.eid_chip.specs.Transitions.{state_refused};
 ghost use Rattle.eid_sm.specs.Keys.{ChannelState};
+ghost use Rattle.eid_chip.specs.declared.session.Session.{Session};
+ghost use Rattle.eid_chip.specs.Endings.{Answered, Lost, ended, reacted};
 ghost use Rattle.eid_chip.specs.States.{state};
 ghost use Rattle.eid_chip.specs.Steps.{state_left, state_due};
 
 use crate::reaction::{Ending, Reaction};
 use crate::refusal::Refusal;
-use crate::session::Session;
+use crate::session::{Run, Session};
 use eid_apdu::Reply;
 use eid_base::{Rule, Status};
 
@@ -33,49 +35,49 @@ pub fn ends_session(rule: Rule) -> bool
 }
 
 /// A command that is refused ends the run, and by some rules the session.
-pub fn refused(refusal: Refusal, session: Session, reply: &mut Reply) -> Reaction
+pub fn refused(refusal: Refusal, session: &mut Session, reply: &mut Reply) -> Reaction
     ensures rule { result.rule ≡ refusal.rule }
     ensures reply { plain_reply reply.new ≡ status_alone refusal.status.0 }
     ensures small { array_vec_len reply.new.content ≤ 2048 }
-    ensures left { (channel : Option ChannelState) → state_left result channel ≡ state_due refusal.rule.0 (state_refused (state session channel)) }
+    ensures left { (channel : Option ChannelState)
+        → state_left (reacted result session.new) channel ≡ state_due refusal.rule.0 (state_refused (state session.old channel)) }
+    ensures idle { session.new.run ≡ Run.Idle }
 {
     put_status(refusal.status, reply);
-    let session = if ends_session(refusal.rule) {
-        Session::new()
+    if ends_session(refusal.rule) {
+        session.forget();
     } else {
-        session.without_run()
-    };
+        session.end_run();
+    }
     Reaction {
         rule: refusal.rule,
-        session,
         opened: None,
     }
 }
 
 /// A command that is carried out and answers no data.
-pub fn carried_out(session: Session, reply: &mut Reply) -> Reaction
-    ensures did { (result.rule.0 ≡ 0) × (plain_reply reply.new ≡ status_alone 0x9000) × (result.session ≡ session) × (result.opened ≡ None) }
+pub fn carried_out(reply: &mut Reply) -> Reaction
+    ensures did { (result.rule.0 ≡ 0) × (plain_reply reply.new ≡ status_alone 0x9000) × (result.opened ≡ None) }
     ensures small { array_vec_len reply.new.content ≤ 2048 }
 {
-    carried_out_with(Status(0x9000), session, reply)
+    carried_out_with(Status(0x9000), reply)
 }
 
 /// A command that is carried out, and answers this status.
-pub fn carried_out_with(status: Status, session: Session, reply: &mut Reply) -> Reaction
-    ensures did { (result.rule.0 ≡ 0) × (plain_reply reply.new ≡ status_alone status.0) × (result.session ≡ session) × (result.opened ≡ None) }
+pub fn carried_out_with(status: Status, reply: &mut Reply) -> Reaction
+    ensures did { (result.rule.0 ≡ 0) × (plain_reply reply.new ≡ status_alone status.0) × (result.opened ≡ None) }
     ensures small { array_vec_len reply.new.content ≤ 2048 }
 {
     put_status(status, reply);
-    answered(session)
+    answered()
 }
 
 /// A command that is carried out, and whose answer stands already.
-pub fn answered(session: Session) -> Reaction
-    ensures { (result.rule.0 ≡ 0) × (result.session ≡ session) × (result.opened ≡ None) }
+pub fn answered() -> Reaction
+    ensures { (result.rule.0 ≡ 0) × (result.opened ≡ None) }
 {
     Reaction {
         rule: Rule(0),
-        session,
         opened: None,
     }
 }
@@ -83,6 +85,7 @@ pub fn answered(session: Session) -> Reaction
 /// How a command ends in whose commit the power was cut, after so many others. Nothing is answered.
 pub fn lost(finished: u8, reply: &mut Reply) -> Ending
     ensures ending { result ≡ Ending.Lost finished }
+    ensures ended { (session : Session) → ended result session ≡ Lost finished }
     ensures small { array_vec_len reply.new.content ≤ 2048 }
 {
     reply.content.clear();
@@ -91,14 +94,16 @@ pub fn lost(finished: u8, reply: &mut Reply) -> Ending
 
 /// How a command ends after so many commits.
 pub fn committed(reaction: Reaction, finished: u8) -> Ending
-    ensures { result ≡ Ending.Answered reaction finished }
+    ensures ending { result ≡ Ending.Answered reaction finished }
+    ensures ended { (session : Session) → ended result session ≡ Answered (reacted reaction session) finished }
 {
     Ending::Answered { reaction, finished }
 }
 
 /// How a command ends that commits nothing.
 pub fn uncommitted(reaction: Reaction) -> Ending
-    ensures { result ≡ Ending.Answered reaction 0 }
+    ensures ending { result ≡ Ending.Answered reaction 0 }
+    ensures ended { (session : Session) → ended result session ≡ Answered (reacted reaction session) 0 }
 {
     Ending::Answered {
         reaction,

@@ -116,7 +116,19 @@ fn own_plain(plain: Option<Header>, body: ArrayVec<u8, MAX_BODY>) -> Option<Plai
 }
 
 impl HandledIn {
+    ghost use Rattle.eid_chip.specs.Endings.{is_loss};
     ghost use Rattle.eid_chip.specs.Fits.{came, came_in};
+
+    /// Whether the power was cut in a commit.
+    pub fn is_loss(&self) -> bool
+        ensures { result ≡ is_loss self.now }
+    {
+        match self {
+            HandledIn::Silent => false,
+            HandledIn::Answered { .. } => false,
+            HandledIn::Lost { .. } => true,
+        }
+    }
 
     /// The same with the bytes of its exchange.
     pub fn with(self, exchange: Exchange) -> Handled

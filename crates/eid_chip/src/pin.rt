@@ -16,6 +16,7 @@ ghost use Rattle.eid_model.specs.Rules.{is_formed};
 ghost use Rattle.eid_chip.specs.Commits.{SameLayout};
 ghost use Rattle.eid_chip.specs.Granting.{activation};
 ghost use Rattle.eid_chip.specs.Held.{held};
+ghost use Rattle.eid_chip.specs.Endings.{ended};
 ghost use Rattle.eid_chip.specs.States.{state};
 ghost use Rattle.eid_chip.specs.Steps.{CommitsOne, IsEndedByKind, Performed};
 ghost use Rattle.eid_chip.specs.Worlds.{world};
@@ -24,7 +25,7 @@ use crate::ending::{carried_out, committed, lost, refused, uncommitted};
 use crate::reaction::Ending;
 use crate::refusal::{BODY_FORM, NO_NUMBER};
 use crate::rights::{check_change, check_manager, check_unblocking, was_with_puk};
-use crate::session::{Change, Session};
+use crate::session::{Change, Run, Session};
 use eid_apdu::{Command, Reply};
 use eid_cells::Eeprom;
 use eid_model::Kind;
@@ -65,7 +66,7 @@ fn pin_in(body: &[u8]) -> Option<[u8; PIN_SIZE]>
 pub fn commit_one<E: Eeprom>(
     effect: &Effect<'_>,
     change: Change,
-    session: Session,
+    session: &mut Session,
     store: &mut Store,
     cells: &mut E,
     reply: &mut Reply,
@@ -73,34 +74,37 @@ pub fn commit_one<E: Eeprom>(
     requires fits { stored.Fits store.old (E.device cells.old) (E.cells cells.old) }
     requires effect { CanApply (effect_view effect.now) (stored.fields_of store.old) }
     ensures ended { (before after : CoproSeen) (channel : Option ChannelState) (kind : Kind) (c : PlainCommand) (asks : List Ask)
-        → CommitsOne kind (held (E.cells cells.old)) (state session channel) c asks (effect_view effect.now) change
-        → IsEndedByKind kind (state session channel) c asks result (plain_reply reply.new)
+        → CommitsOne kind (held (E.cells cells.old)) (state session.old channel) c asks (effect_view effect.now) change
+        → IsEndedByKind kind (state session.old channel) c asks (ended result session.new) (plain_reply reply.new)
         (world before store.old (E.device cells.old) (E.cells cells.old)) (world after store.new (E.device cells.new) (E.cells cells.new)) }
     ensures layout { SameLayout (E.cells cells.old) (E.cells cells.new) }
+    ensures idle { session.new.run ≡ Run.Idle }
     ensures small { array_vec_len reply.new.content ≤ 2048 }
 {
     if store.kept().number > LAST_NUMBER {
         return uncommitted(refused(NO_NUMBER, session, reply));
     }
+    session.leave(change);
     let Ok(_) = store.commit(cells, effect) else {
         return lost(0, reply);
     };
-    committed(carried_out(session.leaving(change), reply), 1)
+    committed(carried_out(reply), 1)
 }
 
 /// RESET RETRY COUNTER with a new PIN, in a channel that the PIN opened, or by a terminal that may manage the PIN. Rule 10 is
 /// a body other than six digits, rule 20 that there is no PACE, rule 29 that it was with another password and no such
 /// terminal is there, rule 54 that there is no commit number left.
 pub fn change_pin<E: Eeprom>(
-    session: Session,
+    session: &mut Session,
     store: &mut Store,
     cells: &mut E,
     c: &Command<'_>,
     reply: &mut Reply,
 ) -> Ending
     requires fits { stored.Fits store.old (E.device cells.old) (E.cells cells.old) }
-    ensures performed { (copro : CoproSeen) → Performed Kind.ChangePin session (plain_command c.now) result (plain_reply reply.new)
+    ensures performed { (copro : CoproSeen) → Performed Kind.ChangePin session.old (plain_command c.now) (ended result session.new) (plain_reply reply.new)
         (world copro store.old (E.device cells.old) (E.cells cells.old)) (world copro store.new (E.device cells.new) (E.cells cells.new)) }
+    ensures idle { session.new.run ≡ Run.Idle }
     ensures small { array_vec_len reply.new.content ≤ 2048 }
 {
     let Some(pin) = pin_in(c.body) else {
@@ -123,15 +127,16 @@ pub fn change_pin<E: Eeprom>(
 /// the PIN are given back. Rule 10 is a body, rule 20 that there is no PACE, rule 29 that it was with another password and
 /// no such terminal is there, rule 30 that no unblocking by the PUK is left, rule 54 that there is no commit number left.
 pub fn unblock_pin<E: Eeprom>(
-    session: Session,
+    session: &mut Session,
     store: &mut Store,
     cells: &mut E,
     c: &Command<'_>,
     reply: &mut Reply,
 ) -> Ending
     requires fits { stored.Fits store.old (E.device cells.old) (E.cells cells.old) }
-    ensures performed { (copro : CoproSeen) → Performed Kind.UnblockPin session (plain_command c.now) result (plain_reply reply.new)
+    ensures performed { (copro : CoproSeen) → Performed Kind.UnblockPin session.old (plain_command c.now) (ended result session.new) (plain_reply reply.new)
         (world copro store.old (E.device cells.old) (E.cells cells.old)) (world copro store.new (E.device cells.new) (E.cells cells.new)) }
+    ensures idle { session.new.run ≡ Run.Idle }
     ensures small { array_vec_len reply.new.content ≤ 2048 }
 {
     if !c.body.is_empty() {
@@ -155,15 +160,16 @@ pub fn unblock_pin<E: Eeprom>(
 /// digits, rule 20 that there is no PACE, the rules 26, 28, 31 and 33 are those of `check_manager`, rule 54 that there is no
 /// commit number left.
 pub fn change_can<E: Eeprom>(
-    session: Session,
+    session: &mut Session,
     store: &mut Store,
     cells: &mut E,
     c: &Command<'_>,
     reply: &mut Reply,
 ) -> Ending
     requires fits { stored.Fits store.old (E.device cells.old) (E.cells cells.old) }
-    ensures performed { (copro : CoproSeen) → Performed Kind.ChangeCan session (plain_command c.now) result (plain_reply reply.new)
+    ensures performed { (copro : CoproSeen) → Performed Kind.ChangeCan session.old (plain_command c.now) (ended result session.new) (plain_reply reply.new)
         (world copro store.old (E.device cells.old) (E.cells cells.old)) (world copro store.new (E.device cells.new) (E.cells cells.new)) }
+    ensures idle { session.new.run ≡ Run.Idle }
     ensures small { array_vec_len reply.new.content ≤ 2048 }
 {
     let Some(can) = pin_in(c.body) else {
@@ -186,15 +192,16 @@ pub fn change_can<E: Eeprom>(
 /// rules 26, 28, 31 and 33 are those of `check_manager`, rule 54 that there is no commit number left.
 pub fn set_active<E: Eeprom>(
     active: bool,
-    session: Session,
+    session: &mut Session,
     store: &mut Store,
     cells: &mut E,
     c: &Command<'_>,
     reply: &mut Reply,
 ) -> Ending
     requires fits { stored.Fits store.old (E.device cells.old) (E.cells cells.old) }
-    ensures performed { (copro : CoproSeen) → Performed (activation active) session (plain_command c.now) result (plain_reply reply.new)
+    ensures performed { (copro : CoproSeen) → Performed (activation active) session.old (plain_command c.now) (ended result session.new) (plain_reply reply.new)
         (world copro store.old (E.device cells.old) (E.cells cells.old)) (world copro store.new (E.device cells.new) (E.cells cells.new)) }
+    ensures idle { session.new.run ≡ Run.Idle }
     ensures small { array_vec_len reply.new.content ≤ 2048 }
 {
     if !c.body.is_empty() {

@@ -1,14 +1,12 @@
 //! How a command ends.
-use crate::session::Session;
 use eid_base::Rule;
 use eid_sm::{Channel, Header};
 
-/// How a command was answered: the first failed rule, or 0, the session after it, and the channel that it
-/// opened. The answer stands beside it.
+/// How a command was answered: the first failed rule, or 0, and the channel that it opened. The answer and the session stand
+/// beside it.
 #[derive(Drop)]
 pub struct Reaction {
     pub rule: Rule,
-    pub session: Session,
     pub opened: Option<Channel>,
 }
 

@@ -12,7 +12,8 @@ ghost use Rattle.eid_tlv.specs.Objects.{is_tag, object};
 ghost use Rattle.eid_model.specs.Answers.{data_alone};
 ghost use Rattle.eid_model.specs.Sectors.{are_its_sectors, is_of_sector};
 ghost use Rattle.eid_chip.specs.SectorEnds.{identifier_object, plain_result, sector_asks, sector_given};
-ghost use Rattle.eid_chip.specs.States.{next_of, state};
+ghost use Rattle.eid_chip.specs.Endings.{reacted};
+ghost use Rattle.eid_chip.specs.States.{next_in_run, state};
 ghost use Rattle.eid_chip.specs.Steps.{IsAnsweredByKind, Stepped};
 
 use crate::authentication::{append, put_in_data};
@@ -20,7 +21,7 @@ use crate::ending::{answered, carried_out, refused};
 use crate::reaction::Reaction;
 use crate::refusal::{BODY_FORM, FAULT, NO_POINT, OTHER_SECTOR, Refusal};
 use crate::rights::check_identification;
-use crate::session::{Run, Session, idle};
+use crate::session::{Run, Session};
 use arrayvec::ArrayVec;
 use eid_apdu::{Command, Reply};
 use eid_base::Secret;
@@ -40,12 +41,12 @@ const IN_SECOND: u16 = 0x83;
 /// MSE:Set AT for restricted identification: a run begins. Rule 10 is a body of another form, the rules 20, 26, 28, 31, 32
 /// and 33 are those of `check_identification`.
 pub fn select_restricted_identification(
-    session: Session,
+    session: &mut Session,
     c: &Command<'_>,
     reply: &mut Reply,
 ) -> Reaction
     ensures told { (kept : FullRecord) (channel : Option ChannelState)
-        → IsAnsweredByKind Kind.SelectRestrictedIdentification kept (state session channel) (plain_command c.now) [] result (plain_reply reply.new) }
+        → IsAnsweredByKind Kind.SelectRestrictedIdentification kept (state session.old channel) (plain_command c.now) [] (reacted result session.new) (plain_reply reply.new) }
     ensures small { array_vec_len reply.new.content ≤ 2048 }
 {
     if !names_restricted_identification(c.body) {
@@ -54,13 +55,8 @@ pub fn select_restricted_identification(
     if let Err(refusal) = check_identification(&session.memory) {
         return refused(refusal, session, reply);
     }
-    carried_out(
-        Session {
-            run: Run::RiChosen,
-            memory: session.memory,
-        },
-        reply,
-    )
+    session.go_on(Run::RiChosen);
+    carried_out(reply)
 }
 
 /// Whether a sector key, where one was sent, has this hash.
@@ -132,16 +128,16 @@ fn put_identifiers(first: &Option<[u8; 32]>, second: &Option<[u8; 32]>, reply: &
 /// second in A2, or both: the identifiers in these sectors are sent. Rule 10 is a body of another form, rule 40 a key whose
 /// hash is not in the terminal's certificate, rule 50 a fault of the coprocessor, rule 52 that what was agreed is no point.
 pub fn perform_restricted_identification<C: Coprocessor>(
-    session: Session,
+    session: &mut Session,
     kept: &Record,
     copro: &mut C,
     c: &Command<'_>,
     reply: &mut Reply,
 ) -> Reaction
     requires room { 2 ≤ (C.seen copro.old).spare }
-    requires turn { next_of session.run ≡ Some Kind.PerformRestrictedIdentification }
+    requires turn { next_in_run session.old.run ≡ Some Kind.PerformRestrictedIdentification }
     ensures told { (full : FullRecord) → full.fields ≡ record_view kept.now
-        → Stepped (C.seen copro.old) (C.seen copro.new) Kind.PerformRestrictedIdentification full session (plain_command c.now) result (plain_reply reply.new) }
+        → Stepped (C.seen copro.old) (C.seen copro.new) Kind.PerformRestrictedIdentification full session.old (plain_command c.now) (reacted result session.new) (plain_reply reply.new) }
     ensures small { array_vec_len reply.new.content ≤ 2048 }
 {
     let Some(keys) = read_sector_keys(c.body) else {
@@ -159,5 +155,6 @@ pub fn perform_restricted_identification<C: Coprocessor>(
         Err(refusal) => return refused(refusal, session, reply),
     };
     put_identifiers(&first, &second, reply);
-    answered(idle(session.memory))
+    session.end_run();
+    answered()
 }

@@ -10,8 +10,8 @@ ghost use Rattle.eid_model.specs.Kinds.{is_by_short};
 ghost use Rattle.eid_model.specs.Rules.{file_meant, offset_meant};
 ghost use Rattle.eid_chip.specs.Held.{held};
 ghost use Rattle.eid_sm.specs.Keys.{ChannelState};
+ghost use Rattle.eid_chip.specs.Endings.{reacted};
 ghost use Rattle.eid_chip.specs.States.{state};
-ghost use Rattle.eid_chip.specs.Transitions.{without_run};
 ghost use Rattle.eid_chip.specs.Steps.{IsAnsweredByKind, known};
 
 use crate::ending::{answered, carried_out, refused};
@@ -19,7 +19,7 @@ use crate::files::{file_length, put_answer};
 use crate::reaction::Reaction;
 use crate::refusal::{BODY_FORM, NO_CURRENT_FILE, NO_FILE, NOT_NAMED, OFFSET};
 use crate::rights::check_reading;
-use crate::session::{Memory, Session, idle};
+use crate::session::{Change, Session};
 use eid_apdu::{Command, Reply};
 use eid_cells::Eeprom;
 use eid_files::{file_of_id, file_of_short, read_range};
@@ -31,9 +31,9 @@ use eid_store::Store;
 const APPLICATION_ID: [u8; 9] = [0xe8, 0x07, 0x04, 0x00, 0x7f, 0x00, 0x07, 0x03, 0x02];
 
 /// SELECT of the application.
-pub fn select_application(session: Session, c: &Command<'_>, reply: &mut Reply) -> Reaction
+pub fn select_application(session: &mut Session, c: &Command<'_>, reply: &mut Reply) -> Reaction
     ensures told { (kept : FullRecord) (channel : Option ChannelState)
-        → IsAnsweredByKind Kind.SelectApplication kept (state session channel) (plain_command c.now) [] result (plain_reply reply.new) }
+        → IsAnsweredByKind Kind.SelectApplication kept (state session.old channel) (plain_command c.now) [] (reacted result session.new) (plain_reply reply.new) }
     ensures small { array_vec_len reply.new.content ≤ 2048 }
 {
     if c.body.is_empty() || c.body.len() > 16 {
@@ -42,39 +42,31 @@ pub fn select_application(session: Session, c: &Command<'_>, reply: &mut Reply) 
     if c.body != APPLICATION_ID.as_slice() {
         return refused(NOT_NAMED, session, reply);
     }
-    carried_out(
-        idle(Memory {
-            selected: true,
-            current: None,
-            ..session.memory
-        }),
-        reply,
-    )
+    session.end_run();
+    session.memory.selected = true;
+    session.memory.current = None;
+    carried_out(reply)
 }
 
 /// SELECT of the master file.
-pub fn select_master_file(session: Session, c: &Command<'_>, reply: &mut Reply) -> Reaction
+pub fn select_master_file(session: &mut Session, c: &Command<'_>, reply: &mut Reply) -> Reaction
     ensures told { (kept : FullRecord) (channel : Option ChannelState)
-        → IsAnsweredByKind Kind.SelectMasterFile kept (state session channel) (plain_command c.now) [] result (plain_reply reply.new) }
+        → IsAnsweredByKind Kind.SelectMasterFile kept (state session.old channel) (plain_command c.now) [] (reacted result session.new) (plain_reply reply.new) }
     ensures small { array_vec_len reply.new.content ≤ 2048 }
 {
     if !c.body.is_empty() && c.body != [0x3f, 0x00].as_slice() {
         return refused(BODY_FORM, session, reply);
     }
-    carried_out(
-        idle(Memory {
-            selected: false,
-            current: None,
-            ..session.memory
-        }),
-        reply,
-    )
+    session.end_run();
+    session.memory.selected = false;
+    session.memory.current = None;
+    carried_out(reply)
 }
 
 /// SELECT of a file. It never tells whether the file is there.
-pub fn select_file(session: Session, c: &Command<'_>, reply: &mut Reply) -> Reaction
+pub fn select_file(session: &mut Session, c: &Command<'_>, reply: &mut Reply) -> Reaction
     ensures told { (kept : FullRecord) (channel : Option ChannelState)
-        → IsAnsweredByKind Kind.SelectFile kept (state session channel) (plain_command c.now) [] result (plain_reply reply.new) }
+        → IsAnsweredByKind Kind.SelectFile kept (state session.old channel) (plain_command c.now) [] (reacted result session.new) (plain_reply reply.new) }
     ensures small { array_vec_len reply.new.content ≤ 2048 }
 {
     let [high, low] = c.body else {
@@ -83,13 +75,8 @@ pub fn select_file(session: Session, c: &Command<'_>, reply: &mut Reply) -> Reac
     let Some(file) = file_of_id(u16::from(*high) * 256 + u16::from(*low)) else {
         return refused(NOT_NAMED, session, reply);
     };
-    carried_out(
-        idle(Memory {
-            current: Some(file),
-            ..session.memory
-        }),
-        reply,
-    )
+    session.leave(Change::Current(file));
+    carried_out(reply)
 }
 
 /// The file that READ BINARY or UPDATE BINARY means: of its short identifier, or the current one.
@@ -118,28 +105,22 @@ pub fn meant_offset(c: &Command<'_>) -> u16
     }
 }
 
-/// The session after a READ BINARY of a file: a short identifier names it.
-fn after_read(session: Session, c: &Command<'_>, file: FileNo) -> Session
-    ensures { (channel : Option ChannelState)
-        → state result channel ≡ record (without_run (state session channel)) {
-          current = if is_by_short (plain_command c.now) then Some file.0 else
-              (state session channel).current;
-        } }
+/// What a READ BINARY or UPDATE BINARY of a file changes in the session: a short identifier names it.
+pub fn naming(c: &Command<'_>, file: FileNo) -> Change
+    ensures { result ≡ (if is_by_short (plain_command c.now) then Change.Current file else Change.Nothing) }
 {
     if c.p1 < 0x80 {
-        return session.without_run();
+        Change::Nothing
+    } else {
+        Change::Current(file)
     }
-    idle(Memory {
-        current: Some(file),
-        ..session.memory
-    })
 }
 
 /// READ BINARY. Without PACE only EF.CardAccess is readable, and a data group only by a terminal that has the right. Rule 10 is
 /// a body, rule 12 that there is no current file, rule 13 an unknown identifier, the rules 20, 26, 28, 31, 32 and 33 are those
 /// of `check_reading`, rule 37 is that the file is absent, rule 38 an offset behind its end.
 pub fn read_binary<E: Eeprom>(
-    session: Session,
+    session: &mut Session,
     store: &Store,
     cells: &E,
     c: &Command<'_>,
@@ -147,7 +128,7 @@ pub fn read_binary<E: Eeprom>(
 ) -> Reaction
     requires { stored.Fits store.now (E.device cells.now) (E.cells cells.now) }
     ensures told { (channel : Option ChannelState)
-        → IsAnsweredByKind Kind.ReadBinary (held (E.cells cells.now)) (state session channel) (plain_command c.now) [] result (plain_reply reply.new) }
+        → IsAnsweredByKind Kind.ReadBinary (held (E.cells cells.now)) (state session.old channel) (plain_command c.now) [] (reacted result session.new) (plain_reply reply.new) }
     ensures small { array_vec_len reply.new.content ≤ 2048 }
 {
     if !c.body.is_empty() {
@@ -156,7 +137,7 @@ pub fn read_binary<E: Eeprom>(
     if c.p1 < 0x80 && session.memory.current.is_none() {
         return refused(NO_CURRENT_FILE, session, reply);
     }
-    let Some(file) = meant_file(&session, c) else {
+    let Some(file) = meant_file(session, c) else {
         return refused(NOT_NAMED, session, reply);
     };
     if let Err(refusal) = check_reading(&session.memory, file) {
@@ -170,5 +151,6 @@ pub fn read_binary<E: Eeprom>(
         return refused(OFFSET, session, reply);
     };
     put_answer(store, cells, file, offset, count, status, reply);
-    answered(after_read(session, c, file))
+    session.leave(naming(c, file));
+    answered()
 }

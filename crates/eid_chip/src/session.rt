@@ -8,6 +8,7 @@ use eid_cvc::{ChainState, TerminalKnown};
 use eid_pace::{Agreed, Chosen, Mapped, NonceSent};
 use eid_record::{FileNo, Password};
 use eid_ta::{Announced, Challenged};
+use std::mem;
 
 /// The longest name of a public key, in bytes.
 pub const MAX_NAME: usize = 16;
@@ -27,6 +28,16 @@ pub enum Run {
     Agreed(Agreed),
     /// The public key with this name is to verify the next certificate.
     KeyChosen(ArrayVec<u8, MAX_NAME>),
+    /// Restricted identification was chosen.
+    RiChosen,
+}
+
+/// Where the authentication of a terminal or of the chip stands. It stands beside the run, since an announcement has over
+/// 2,000 bytes: a command that has nothing to do with it leaves them where they are.
+#[derive(Drop)]
+pub enum Authentication {
+    /// None was begun.
+    NotBegun,
     /// A terminal has announced itself.
     Announced {
         /// The chip's identity in the last PACE.
@@ -43,8 +54,6 @@ pub enum Run {
     },
     /// Chip authentication was chosen.
     CaChosen(CaChosen),
-    /// Restricted identification was chosen.
-    RiChosen,
 }
 
 /// What is asked of the last PACE later.
@@ -75,12 +84,14 @@ pub struct Memory {
     pub chip_proven: bool,
 }
 
-/// The session of a chip with power.
+/// The session of a chip with power. It is changed where it stands.
 #[derive(Drop)]
 pub struct Session {
     /// Where the run stands.
     pub run: Run,
-    /// What is kept beside it.
+    /// Where the authentication stands.
+    pub authentication: Authentication,
+    /// What is kept beside them.
     pub memory: Memory,
 }
 
@@ -108,47 +119,105 @@ impl Session {
     {
         Session {
             run: Run::Idle,
-            memory: Memory {
-                selected: false,
-                current: None,
-                pace: None,
-                certificates: ChainState::new(),
-                terminal: None,
-                chip_proven: false,
-            },
+            authentication: Authentication::NotBegun,
+            memory: Memory::new(),
         }
     }
 
-    /// The session without its run, after this change.
-    pub fn leaving(self, change: Change) -> Session
-        ensures { (channel : Option ChannelState) → state result channel ≡ with_change change (without_run (state self channel)) }
+    /// Makes it the session that power begins.
+    pub fn forget(&mut self)
+        ensures forgot { state self.new None ≡ fresh }
+        ensures idle { self.new.run ≡ Run.Idle }
     {
+        self.end_run();
+        self.memory = Memory::new();
+    }
+
+    /// Ends the run and the authentication. Each is made idle only where it is not, so that no bytes are cleared for nothing.
+    pub fn end_run(&mut self)
+        ensures idle { (self.new.run ≡ Run.Idle) × (self.new.authentication ≡ Authentication.NotBegun) }
+        ensures memory { self.new.memory ≡ self.old.memory }
+    {
+        if !matches!(self.run, Run::Idle) {
+            self.run = Run::Idle;
+        }
+        if !matches!(self.authentication, Authentication::NotBegun) {
+            self.authentication = Authentication::NotBegun;
+        }
+    }
+
+    /// Takes the run out of the session, which has neither a run nor an authentication then.
+    pub fn take_run(&mut self) -> Run
+        ensures run { result ≡ self.old.run }
+        ensures idle { (self.new.run ≡ Run.Idle) × (self.new.authentication ≡ Authentication.NotBegun) }
+        ensures memory { self.new.memory ≡ self.old.memory }
+    {
+        let run = mem::replace(&mut self.run, Run::Idle);
+        self.end_run();
+        run
+    }
+
+    /// Takes the authentication out of the session, which has neither a run nor an authentication then.
+    pub fn take_authentication(&mut self) -> Authentication
+        ensures authentication { result ≡ self.old.authentication }
+        ensures idle { (self.new.run ≡ Run.Idle) × (self.new.authentication ≡ Authentication.NotBegun) }
+        ensures memory { self.new.memory ≡ self.old.memory }
+    {
+        let authentication = mem::replace(&mut self.authentication, Authentication::NotBegun);
+        self.end_run();
+        authentication
+    }
+
+    /// Makes the run stand here, without an authentication.
+    pub fn go_on(&mut self, run: Run)
+        ensures { self.new ≡ record { run = run; authentication = Authentication.NotBegun; memory = self.old.memory } }
+    {
+        self.end_run();
+        self.run = run;
+    }
+
+    /// Makes the authentication stand here, without a run.
+    pub fn authenticate(&mut self, authentication: Authentication)
+        ensures { self.new ≡ record { run = Run.Idle; authentication = authentication; memory = self.old.memory } }
+    {
+        self.end_run();
+        self.authentication = authentication;
+    }
+
+    /// Ends the run, and makes this change.
+    pub fn leave(&mut self, change: Change)
+        ensures left { (channel : Option ChannelState) → state self.new channel ≡ with_change change (without_run (state self.old channel)) }
+        ensures idle { self.new.run ≡ Run.Idle }
+    {
+        self.end_run();
         match change {
-            Change::Nothing => self.without_run(),
-            Change::Certificates(certificates) => idle(Memory {
-                certificates,
-                ..self.memory
-            }),
-            Change::Current(file) => idle(Memory {
-                current: Some(file),
-                ..self.memory
-            }),
+            Change::Nothing => {}
+            Change::Certificates(certificates) => self.memory.certificates = certificates,
+            Change::Current(file) => self.memory.current = Some(file),
         }
-    }
-
-    /// The session without its run.
-    pub fn without_run(self) -> Session
-        ensures { (channel : Option ChannelState) → state result channel ≡ without_run (state self channel) }
-    {
-        idle(self.memory)
     }
 }
 
 impl Memory {
-    ghost use Rattle.std.specs.Prelude.{option_map};
+    ghost use Rattle.std.specs.Prelude.{None, option_map};
     ghost use Rattle.eid_model.specs.Rules.{was_with};
+    ghost use Rattle.eid_model.specs.Sessions.{fresh};
     ghost use Rattle.eid_password.specs.Passwords.{is_can};
-    ghost use Rattle.eid_chip.specs.States.{memory};
+    ghost use Rattle.eid_chip.specs.States.{memory, state};
+
+    /// What a session keeps that power begins: nothing.
+    pub fn new() -> Memory
+        ensures { state (record { run = Run.Idle; authentication = Authentication.NotBegun; memory = result }) None ≡ fresh }
+    {
+        Memory {
+            selected: false,
+            current: None,
+            pace: None,
+            certificates: ChainState::new(),
+            terminal: None,
+            chip_proven: false,
+        }
+    }
 
     /// The password of the last PACE, where there was one.
     pub fn last_password(&self) -> Option<Password>
@@ -172,15 +241,5 @@ impl Memory {
             },
             None => false,
         }
-    }
-}
-
-/// A session without a run.
-pub fn idle(memory: Memory) -> Session
-    ensures { (result.run ≡ Run.Idle) × (result.memory ≡ memory) }
-{
-    Session {
-        run: Run::Idle,
-        memory,
     }
 }

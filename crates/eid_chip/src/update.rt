@@ -6,8 +6,8 @@ ghost use Rattle.eid_apdu.specs.Command.{plain_command};
 ghost use Rattle.eid_bits.specs.Date.{is_between};
 ghost use Rattle.eid_copro.specs.Seen.{CoproSeen};
 ghost use Rattle.eid_store.specs.Store as stored;
-ghost use Rattle.eid_model.specs.Kinds.{is_by_short};
 ghost use Rattle.eid_model.specs.Rules.{group_of};
+ghost use Rattle.eid_chip.specs.Endings.{ended};
 ghost use Rattle.eid_chip.specs.Steps.{Performed};
 ghost use Rattle.eid_chip.specs.Worlds.{world};
 
@@ -17,8 +17,8 @@ use crate::pin::commit_one;
 use crate::reaction::Ending;
 use crate::refusal::{BODY_FORM, NO_CURRENT_FILE, NO_FILE, NOT_NAMED, NOT_WRITABLE, bad_range};
 use crate::rights::check_writing;
-use crate::select::{meant_file, meant_offset};
-use crate::session::{Change, Session};
+use crate::select::{meant_file, meant_offset, naming};
+use crate::session::{Run, Session};
 use eid_apdu::{Command, Reply};
 use eid_cells::Eeprom;
 use eid_files::{data_group_of, write_range};
@@ -39,23 +39,12 @@ fn is_writable(file: FileNo) -> bool
     }
 }
 
-/// What an UPDATE BINARY of a file changes in the session: a short identifier names it.
-fn naming(c: &Command<'_>, file: FileNo) -> Change
-    ensures { result ≡ (if is_by_short (plain_command c.now) then Change.Current file else Change.Nothing) }
-{
-    if c.p1 < 0x80 {
-        Change::Nothing
-    } else {
-        Change::Current(file)
-    }
-}
-
 /// UPDATE BINARY. Rule 10 is an empty body, rule 12 that there is no current file, rule 13 an unknown identifier, rule 14 a
 /// file that may not be written, the rules 20, 26, 28, 31, 32 and 33 are those of `check_writing`, rule 37 is that the file
 /// is absent, rule 38 an offset behind its end, rule 39 more bytes than there are from there on, rule 54 that there is no
 /// commit number left.
 pub fn update_binary<E: Eeprom>(
-    session: Session,
+    session: &mut Session,
     store: &mut Store,
     cells: &mut E,
     c: &Command<'_>,
@@ -63,8 +52,9 @@ pub fn update_binary<E: Eeprom>(
 ) -> Ending
     requires fits { stored.Fits store.old (E.device cells.old) (E.cells cells.old) }
     requires short { length c.now.body.now ≤ 2048 }
-    ensures performed { (copro : CoproSeen) → Performed Kind.UpdateBinary session (plain_command c.now) result (plain_reply reply.new)
+    ensures performed { (copro : CoproSeen) → Performed Kind.UpdateBinary session.old (plain_command c.now) (ended result session.new) (plain_reply reply.new)
         (world copro store.old (E.device cells.old) (E.cells cells.old)) (world copro store.new (E.device cells.new) (E.cells cells.new)) }
+    ensures idle { session.new.run ≡ Run.Idle }
     ensures small { array_vec_len reply.new.content ≤ 2048 }
 {
     if c.body.is_empty() {
@@ -73,7 +63,7 @@ pub fn update_binary<E: Eeprom>(
     if c.p1 < 0x80 && session.memory.current.is_none() {
         return uncommitted(refused(NO_CURRENT_FILE, session, reply));
     }
-    let Some(file) = meant_file(&session, c) else {
+    let Some(file) = meant_file(session, c) else {
         return uncommitted(refused(NOT_NAMED, session, reply));
     };
     if !is_writable(file) {

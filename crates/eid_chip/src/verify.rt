@@ -11,6 +11,7 @@ ghost use Rattle.eid_tlv.specs.Objects.{object};
 ghost use Rattle.eid_model.specs.Auxiliary.{comparison_in, reference_file};
 ghost use Rattle.eid_chip.specs.Granting.{refusal_in, sent_refused, sent_to, verdict_refused};
 ghost use Rattle.eid_chip.specs.Held.{held, held_file};
+ghost use Rattle.eid_chip.specs.Endings.{reacted};
 ghost use Rattle.eid_chip.specs.States.{state};
 ghost use Rattle.eid_chip.specs.Steps.{IsAnsweredByKind};
 
@@ -124,7 +125,7 @@ fn compare_kept<E: Eeprom>(
 /// VERIFY of auxiliary data that the terminal sent. Rule 10 is a body that names no comparison, the rules 20, 26, 28 and 31 to
 /// 33 are those of `check_comparison`, the rules 34 to 36 those of `compare_kept`.
 pub fn verify_auxiliary<E: Eeprom>(
-    session: Session,
+    session: &mut Session,
     store: &Store,
     cells: &E,
     c: &Command<'_>,
@@ -132,7 +133,7 @@ pub fn verify_auxiliary<E: Eeprom>(
 ) -> Reaction
     requires { stored.Fits store.now (E.device cells.now) (E.cells cells.now) }
     ensures told { (channel : Option ChannelState)
-        → IsAnsweredByKind Kind.VerifyAuxiliary (held (E.cells cells.now)) (state session channel) (plain_command c.now) [] result (plain_reply reply.new) }
+        → IsAnsweredByKind Kind.VerifyAuxiliary (held (E.cells cells.now)) (state session.old channel) (plain_command c.now) [] (reacted result session.new) (plain_reply reply.new) }
     ensures small { array_vec_len reply.new.content ≤ 2048 }
 {
     let Some(comparison) = comparison_in(c.body) else {
@@ -144,5 +145,6 @@ pub fn verify_auxiliary<E: Eeprom>(
     if let Err(refusal) = compare_kept(&session.memory, comparison, store, cells, reply) {
         return refused(refusal, session, reply);
     }
-    carried_out(session.without_run(), reply)
+    session.end_run();
+    carried_out(reply)
 }

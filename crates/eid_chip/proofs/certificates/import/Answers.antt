@@ -12,7 +12,7 @@ use Rattle.eid_chip.specs.Held.{held}
 use Rattle.eid_chip.specs.States.{state}
 use Rattle.eid_chip.specs.Steps.{IsEndedByKind, certificate_ask}
 use Rattle.eid_chip.specs.Worlds.{world}
-use Rattle.eid_chip.specs.declared.reaction.Ending.{Ending}
+use Rattle.eid_chip.specs.Endings.{Ended, reacted}
 use Rattle.eid_chip.proofs.CertificateSteps.{wrong_answered, wrong_undue, fault_answered, fault_undue}
 use Rattle.eid_chip.proofs.Outcomes.{ended_uncommitted}
 use Rattle.eid_chip.proofs.certificates.import.Goals as goal
@@ -42,10 +42,10 @@ returns-in-Ok-false-clause-performed g c = λ command imports.
       asks = asks;
       were_asked = rw (← c.digest-digest.ensures, ← c.in-Ok-false.field-0-test) (asked_once c.in-Ok-false.ensures);
       ended = λ channel.
-          subst (λ (e : Ending). IsEndedByKind VerifyCertificate (state c.args.session channel) command asks e said was now) (sym c.uncommitted.ensures)
-          (ended_uncommitted VerifyCertificate (state c.args.session channel) command asks c.refused.result said (g.C.Coprocessor.seen c.args.copro.now) (g.C.Coprocessor.seen c.verify.new.self) c.args.store.now device cells c.requires.fits
-          (wrong_undue (held cells) (state c.args.session channel) command certificate accepted (imports channel))
-          (wrong_answered (held cells) (state c.args.session channel) command certificate accepted c.refused.result said (imports channel) (ap (λ (r : Rule). r.0) c.refused.ensures.rule) c.refused.ensures.reply (c.refused.ensures.left channel)));
+          subst (λ (e : Ended). IsEndedByKind VerifyCertificate (state c.args.session.now channel) command asks e said was now) (sym (c.uncommitted.ensures.ended _))
+          (ended_uncommitted VerifyCertificate (state c.args.session.now channel) command asks (reacted c.refused.result c.refused.new.session) said (g.C.Coprocessor.seen c.args.copro.now) (g.C.Coprocessor.seen c.verify.new.self) c.args.store.now device cells c.requires.fits
+          (wrong_undue (held cells) (state c.args.session.now channel) command certificate accepted (imports channel))
+          (wrong_answered (held cells) (state c.args.session.now channel) command certificate accepted (reacted c.refused.result c.refused.new.session) said (imports channel) (ap (λ (r : Rule). r.0) c.refused.ensures.rule) c.refused.ensures.reply (c.refused.ensures.left channel)));
       layout = refl;
     }
 
@@ -63,9 +63,9 @@ returns-in-Err-clause-performed g c = λ command imports.
       asks = asks;
       were_asked = rw (← c.digest-digest.ensures) (asked_once c.in-Err.ensures);
       ended = λ channel.
-          subst (λ (e : Ending). IsEndedByKind VerifyCertificate (state c.args.session channel) command asks e said was now) (sym c.uncommitted-in-Err.ensures)
-          (ended_uncommitted VerifyCertificate (state c.args.session channel) command asks c.refused-in-Err.result said (g.C.Coprocessor.seen c.args.copro.now) (g.C.Coprocessor.seen c.verify.new.self) c.args.store.now device cells c.requires.fits
-          (fault_undue (held cells) (state c.args.session channel) command certificate accepted (imports channel))
-          (fault_answered (held cells) (state c.args.session channel) command certificate accepted c.refused-in-Err.result said (imports channel) (ap (λ (r : Rule). r.0) c.refused-in-Err.ensures.rule) c.refused-in-Err.ensures.reply (c.refused-in-Err.ensures.left channel)));
+          subst (λ (e : Ended). IsEndedByKind VerifyCertificate (state c.args.session.now channel) command asks e said was now) (sym (c.uncommitted-in-Err.ensures.ended _))
+          (ended_uncommitted VerifyCertificate (state c.args.session.now channel) command asks (reacted c.refused-in-Err.result c.refused-in-Err.new.session) said (g.C.Coprocessor.seen c.args.copro.now) (g.C.Coprocessor.seen c.verify.new.self) c.args.store.now device cells c.requires.fits
+          (fault_undue (held cells) (state c.args.session.now channel) command certificate accepted (imports channel))
+          (fault_answered (held cells) (state c.args.session.now channel) command certificate accepted (reacted c.refused-in-Err.result c.refused-in-Err.new.session) said (imports channel) (ap (λ (r : Rule). r.0) c.refused-in-Err.ensures.rule) c.refused-in-Err.ensures.reply (c.refused-in-Err.ensures.left channel)));
       layout = refl;
     }

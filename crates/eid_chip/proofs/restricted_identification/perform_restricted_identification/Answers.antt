@@ -8,6 +8,7 @@ use Rattle.eid_model.specs.Answers.{data_alone}
 use Rattle.eid_tlv.specs.Objects.{object}
 use Rattle.eid_model.specs.declared.kind.Kind.TheVariants.{PerformRestrictedIdentification}
 use Rattle.eid_ri.specs.View.{keys_view}
+use Rattle.eid_chip.specs.Endings.{reacted}
 use Rattle.eid_chip.specs.SectorEnds.{identifier_object, sector_asks}
 use Rattle.eid_chip.specs.States.{state}
 use Rattle.eid_chip.specs.Steps.{refusal}
@@ -21,8 +22,8 @@ returns-in_default-clause-told g c full fields =
     record {
       asks = [];
       were_asked = not_asked _;
-      tells = λ channel. (kind_refused PerformRestrictedIdentification full (state c.args.session channel) (plain_command c.args.c.now) (record { rule = 10; status = 0x6A80 }) r.result (plain_reply r.new.reply)
-          (no_sector_keys full (state c.args.session channel) (plain_command c.args.c.now) (sym c.in_default.ensures)) refl (ap (λ (x : Rule). x.0) r.ensures.rule) r.ensures.reply (r.ensures.left channel)).1;
+      tells = λ channel. (kind_refused PerformRestrictedIdentification full (state c.args.session.now channel) (plain_command c.args.c.now) (record { rule = 10; status = 0x6A80 }) (reacted r.result r.new.session) (plain_reply r.new.reply)
+          (no_sector_keys full (state c.args.session.now channel) (plain_command c.args.c.now) (sym c.in_default.ensures)) refl (ap (λ (x : Rule). x.0) r.ensures.rule) r.ensures.reply (r.ensures.left channel)).1;
     }
 
 pub returns-then-not-are_its_sectors-clause-told : goal.returns-then-not-are_its_sectors-clause-told
@@ -31,8 +32,8 @@ returns-then-not-are_its_sectors-clause-told g c full fields =
     record {
       asks = [];
       were_asked = not_asked _;
-      tells = λ channel. (kind_refused PerformRestrictedIdentification full (state c.args.session channel) (plain_command c.args.c.now) (record { rule = 40; status = 0x6300 }) r.result (plain_reply r.new.reply)
-          (other_sectors full (state c.args.session channel) (plain_command c.args.c.now) (keys_view c.in-Some.keys) (sym c.in-Some.ensures) (sym c.are_its_sectors.ensures ∙ c.if-not-are_its_sectors.true)) refl (ap (λ (x : Rule). x.0) r.ensures.rule) r.ensures.reply (r.ensures.left channel)).1;
+      tells = λ channel. (kind_refused PerformRestrictedIdentification full (state c.args.session.now channel) (plain_command c.args.c.now) (record { rule = 40; status = 0x6300 }) (reacted r.result r.new.session) (plain_reply r.new.reply)
+          (other_sectors full (state c.args.session.now channel) (plain_command c.args.c.now) (keys_view c.in-Some.keys) (sym c.in-Some.ensures) (sym c.are_its_sectors.ensures ∙ c.if-not-are_its_sectors.true)) refl (ap (λ (x : Rule). x.0) r.ensures.rule) r.ensures.reply (r.ensures.left channel)).1;
     }
 
 pub returns-in-Err-identify-clause-told : goal.returns-in-Err-identify-clause-told
@@ -45,7 +46,7 @@ returns-in-Err-identify-clause-told g c full fields =
       asks = sector_asks full.fields.ri_secret keys.first one.end ++ sector_asks full.fields.ri_secret keys.second other.end;
       were_asked = rw fields (asked_both one.asked other.asked);
       tells = λ channel.
-          second_refused full (state c.args.session channel) (plain_command c.args.c.now) keys.first keys.second one.end other.end c.in-Ok.first (refusal c.in-Err-identify.refusal) r.result (plain_reply r.new.reply)
+          second_refused full (state c.args.session.now channel) (plain_command c.args.c.now) keys.first keys.second one.end other.end c.in-Ok.first (refusal c.in-Err-identify.refusal) (reacted r.result r.new.session) (plain_reply r.new.reply)
           (record { body = sym c.in-Some.ensures; its = sym c.are_its_sectors.ensures ∙ c.if-not-are_its_sectors.false }) one.gives other.gives
           (record { rule = ap (λ (x : Rule). x.0) r.ensures.rule; answered = r.ensures.reply; state = r.ensures.left channel });
     }
@@ -61,7 +62,7 @@ returns-clause-told g c full fields =
       asks = sector_asks full.fields.ri_secret keys.first one.end ++ sector_asks full.fields.ri_secret keys.second other.end;
       were_asked = rw fields (asked_both one.asked other.asked);
       tells = λ channel.
-          identified_to full (state c.args.session channel) (plain_command c.args.c.now) keys.first keys.second one.end other.end c.in-Ok.first c.in-Ok-identify.second c.answered.result said
+          identified_to full (state c.args.session.now channel) (plain_command c.args.c.now) keys.first keys.second one.end other.end c.in-Ok.first c.in-Ok-identify.second (reacted c.answered.result c.end_run.new.self) said
           (record { body = sym c.in-Some.ensures; its = sym c.are_its_sectors.ensures ∙ c.if-not-are_its_sectors.false }) one.gives other.gives
-          (identified_so c.answered.result said c.args.session channel c.idle.result (data_alone (object 0x7C (identifier_object 0x81 c.in-Ok.first ++ identifier_object 0x83 c.in-Ok-identify.second))) done.0 c.put_identifiers.ensures.plain done.2 done.1 c.idle.ensures.0 c.idle.ensures.1);
+          (identified_so (reacted c.answered.result c.end_run.new.self) said c.args.session.now channel c.end_run.new.self (data_alone (object 0x7C (identifier_object 0x81 c.in-Ok.first ++ identifier_object 0x83 c.in-Ok-identify.second))) done.0 c.put_identifiers.ensures.plain done.1 refl c.end_run.ensures.idle.0 c.end_run.ensures.idle.1 c.end_run.ensures.memory);
     }

@@ -9,9 +9,10 @@ use Rattle.eid_apdu.specs.Command.{plain_command}
 use Rattle.eid_model.specs.Rules.{bytes_of_file, offset_meant}
 use Rattle.eid_model.specs.Answers.{read_reply}
 use Rattle.eid_apdu.specs.Answer.{plain_reply}
-use Rattle.eid_chip.specs.Transitions.{two_messages_later}
+use Rattle.eid_chip.specs.Endings.{reacted}
+use Rattle.eid_chip.specs.Transitions.{two_messages_later, with_change, without_run}
 use Rattle.eid_record.specs.declared.fields.FileNo.{FileNo}
-use Rattle.eid_chip.specs.declared.session.Session.{Session}
+use Rattle.eid_chip.specs.declared.session.Change.{Change}
 use Rattle.eid_chip.specs.Granting.{reading_refused}
 use Rattle.eid_chip.specs.Held.{held, held_file}
 use Rattle.eid_chip.specs.States.{state}
@@ -22,62 +23,62 @@ use Rattle.eid_chip.proofs.RightSteps.{passed_is, reading_at, reading_fails, rea
 use Rattle.eid_chip.proofs.Selections.{first_holds, second_holds, some_after}
 use Rattle.eid_files.specs.Ranges.{range_view}
 use Rattle.eid_chip.proofs.HeldFiles.{given_is, given_none, range_is}
-use Rattle.eid_chip.proofs.ReadSteps.{MeansFile, none_there, read_absent, read_behind, read_passes, read_answers, read_leaves}
+use Rattle.eid_chip.proofs.ReadSteps.{MeansFile, none_there, read_absent, read_behind, read_passes, read_answers, read_leaves, file_named}
 use Rattle.eid_chip.proofs.select.read_binary.Goals as goal
 use Rattle.eid_chip.proofs.select.read_binary.Goals.{else-c-lt128-via-then-c-lt128+else-is_none, else-c-lt128-via-else-c-lt128}
 
 pub returns-in-Err-clause-told : goal.returns-in-Err-clause-told
 returns-in-Err-clause-told g c = λ channel.
     let kept = held (g.E.Eeprom.cells c.args.cells.now) in
-    let old = state c.args.session channel in
+    let old = state c.args.session.now channel in
     let command = plain_command c.args.c.now in
     let current : (is_by_short command || is_some old.current) ≡ true =
-    elim c.else-c-lt128.branch [ else-c-lt128-via-then-c-lt128+else-is_none w ↦ second_holds (is_by_short command) _ (some_after (λ (f : FileNo). f.0) c.args.session.memory.current ∙ w.if-is_none.ensures) | else-c-lt128-via-else-c-lt128 w ↦ let short : true ≡ nat_le 0x80 c.args.c.now.p1 = grind (arith, nat_tests) in first_holds _ _ short ] in
-    let so = refused_is c.check_reading.result c.in-Err.refusal (reading_refused old c.in-Some.file.0) (c.check_reading.ensures ∙ reading_at c.args.session channel c.in-Some.file.0) c.in-Err.is in
+    elim c.else-c-lt128.branch [ else-c-lt128-via-then-c-lt128+else-is_none w ↦ second_holds (is_by_short command) _ (some_after (λ (f : FileNo). f.0) c.args.session.now.memory.current ∙ w.if-is_none.ensures) | else-c-lt128-via-else-c-lt128 w ↦ let short : true ≡ nat_le 0x80 c.args.c.now.p1 = grind (arith, nat_tests) in first_holds _ _ short ] in
+    let so = refused_is c.check_reading.result c.in-Err.refusal (reading_refused old c.in-Some.file.0) (c.check_reading.ensures ∙ reading_at c.args.session.now channel c.in-Some.file.0) c.in-Err.is in
     let r = c.refused-in-Err in
-    (kind_refused ReadBinary kept old command (refusal c.in-Err.refusal) r.result (plain_reply r.new.reply)
+    (kind_refused ReadBinary kept old command (refusal c.in-Err.refusal) (reacted r.result r.new.session) (plain_reply r.new.reply)
     (reading_fails kept old command c.in-Some.file.0 (refusal c.in-Err.refusal) (sym c.if-not-is_empty.ensures) current (c.in-Some.ensures.file ReadBinary kept channel) so.0) (so.1 (reading_rules old c.in-Some.file.0))
     (ap (λ (x : Rule). x.0) r.ensures.rule) r.ensures.reply (r.ensures.left channel)).1
 
 pub returns-in_default-file_length-clause-told : goal.returns-in_default-file_length-clause-told
 returns-in_default-file_length-clause-told g c = λ channel.
     let kept = held (g.E.Eeprom.cells c.args.cells.now) in
-    let old = state c.args.session channel in
+    let old = state c.args.session.now channel in
     let command = plain_command c.args.c.now in
     let current : (is_by_short command || is_some old.current) ≡ true =
-    elim c.else-c-lt128.branch [ else-c-lt128-via-then-c-lt128+else-is_none w ↦ second_holds (is_by_short command) _ (some_after (λ (f : FileNo). f.0) c.args.session.memory.current ∙ w.if-is_none.ensures) | else-c-lt128-via-else-c-lt128 w ↦ let short : true ≡ nat_le 0x80 c.args.c.now.p1 = grind (arith, nat_tests) in first_holds _ _ short ] in
-    let served = passed_is c.check_reading.result c.in_default-check_reading.field-0 (reading_refused old c.in-Some.file.0) (c.check_reading.ensures ∙ reading_at c.args.session channel c.in-Some.file.0) c.in_default-check_reading.is in
+    elim c.else-c-lt128.branch [ else-c-lt128-via-then-c-lt128+else-is_none w ↦ second_holds (is_by_short command) _ (some_after (λ (f : FileNo). f.0) c.args.session.now.memory.current ∙ w.if-is_none.ensures) | else-c-lt128-via-else-c-lt128 w ↦ let short : true ≡ nat_le 0x80 c.args.c.now.p1 = grind (arith, nat_tests) in first_holds _ _ short ] in
+    let served = passed_is c.check_reading.result c.in_default-check_reading.field-0 (reading_refused old c.in-Some.file.0) (c.check_reading.ensures ∙ reading_at c.args.session.now channel c.in-Some.file.0) c.in_default-check_reading.is in
     let means : MeansFile kept old command c.in-Some.file.0 = record { empty = sym c.if-not-is_empty.ensures; current = current; meant = c.in-Some.ensures.file ReadBinary kept channel; served = served } in
     let r = c.refused-in_default-file_length in
-    (kind_refused ReadBinary kept old command (record { rule = 37; status = 0x6A82 }) r.result (plain_reply r.new.reply)
+    (kind_refused ReadBinary kept old command (record { rule = 37; status = 0x6A82 }) (reacted r.result r.new.session) (plain_reply r.new.reply)
     (read_absent kept old command c.in-Some.file.0 means (none_there (bytes_of_file kept (Some c.in-Some.file.0)) c.in_default-file_length.ensures.length)) refl
     (ap (λ (x : Rule). x.0) r.ensures.rule) r.ensures.reply (r.ensures.left channel)).1
 
 pub returns-in_default-read_range-clause-told : goal.returns-in_default-read_range-clause-told
 returns-in_default-read_range-clause-told g c = λ channel.
     let kept = held (g.E.Eeprom.cells c.args.cells.now) in
-    let old = state c.args.session channel in
+    let old = state c.args.session.now channel in
     let command = plain_command c.args.c.now in
     let current : (is_by_short command || is_some old.current) ≡ true =
-    elim c.else-c-lt128.branch [ else-c-lt128-via-then-c-lt128+else-is_none w ↦ second_holds (is_by_short command) _ (some_after (λ (f : FileNo). f.0) c.args.session.memory.current ∙ w.if-is_none.ensures) | else-c-lt128-via-else-c-lt128 w ↦ let short : true ≡ nat_le 0x80 c.args.c.now.p1 = grind (arith, nat_tests) in first_holds _ _ short ] in
-    let served = passed_is c.check_reading.result c.in_default-check_reading.field-0 (reading_refused old c.in-Some.file.0) (c.check_reading.ensures ∙ reading_at c.args.session channel c.in-Some.file.0) c.in_default-check_reading.is in
+    elim c.else-c-lt128.branch [ else-c-lt128-via-then-c-lt128+else-is_none w ↦ second_holds (is_by_short command) _ (some_after (λ (f : FileNo). f.0) c.args.session.now.memory.current ∙ w.if-is_none.ensures) | else-c-lt128-via-else-c-lt128 w ↦ let short : true ≡ nat_le 0x80 c.args.c.now.p1 = grind (arith, nat_tests) in first_holds _ _ short ] in
+    let served = passed_is c.check_reading.result c.in_default-check_reading.field-0 (reading_refused old c.in-Some.file.0) (c.check_reading.ensures ∙ reading_at c.args.session.now channel c.in-Some.file.0) c.in_default-check_reading.is in
     let means : MeansFile kept old command c.in-Some.file.0 = record { empty = sym c.if-not-is_empty.ensures; current = current; meant = c.in-Some.ensures.file ReadBinary kept channel; served = served } in
     let behind : nat_le (offset_meant command) c.in-Some-file_length.length ≡ false =
     rw (← c.meant_offset-offset.ensures) (given_none c.in-Some-file_length.length c.meant_offset-offset.result c.args.c.now.ne c.in_default-read_range.field-0.0 (sym (ap range_view c.in_default-read_range.is) ∙ c.read_range.ensures)) in
     let r = c.refused-in_default-read_range in
-    (kind_refused ReadBinary kept old command (record { rule = 38; status = 0x6B00 }) r.result (plain_reply r.new.reply)
+    (kind_refused ReadBinary kept old command (record { rule = 38; status = 0x6B00 }) (reacted r.result r.new.session) (plain_reply r.new.reply)
     (read_behind kept old command c.in-Some.file.0 c.in-Some-file_length.length means c.in-Some-file_length.ensures.length behind) refl
     (ap (λ (x : Rule). x.0) r.ensures.rule) r.ensures.reply (r.ensures.left channel)).1
 
 pub returns-clause-told : goal.returns-clause-told
 returns-clause-told g c = λ channel.
     let kept = held (g.E.Eeprom.cells c.args.cells.now) in
-    let old = state c.args.session channel in
+    let old = state c.args.session.now channel in
     let command = plain_command c.args.c.now in
     let current : (is_by_short command || is_some old.current) ≡ true =
-    elim c.else-c-lt128.branch [ else-c-lt128-via-then-c-lt128+else-is_none w ↦ second_holds (is_by_short command) _ (some_after (λ (f : FileNo). f.0) c.args.session.memory.current ∙ w.if-is_none.ensures) | else-c-lt128-via-else-c-lt128 w ↦ let short : true ≡ nat_le 0x80 c.args.c.now.p1 = grind (arith, nat_tests) in first_holds _ _ short ] in
+    elim c.else-c-lt128.branch [ else-c-lt128-via-then-c-lt128+else-is_none w ↦ second_holds (is_by_short command) _ (some_after (λ (f : FileNo). f.0) c.args.session.now.memory.current ∙ w.if-is_none.ensures) | else-c-lt128-via-else-c-lt128 w ↦ let short : true ≡ nat_le 0x80 c.args.c.now.p1 = grind (arith, nat_tests) in first_holds _ _ short ] in
     let meant = c.in-Some.ensures.file ReadBinary kept channel in
-    let served = passed_is c.check_reading.result c.in_default-check_reading.field-0 (reading_refused old c.in-Some.file.0) (c.check_reading.ensures ∙ reading_at c.args.session channel c.in-Some.file.0) c.in_default-check_reading.is in
+    let served = passed_is c.check_reading.result c.in_default-check_reading.field-0 (reading_refused old c.in-Some.file.0) (c.check_reading.ensures ∙ reading_at c.args.session.now channel c.in-Some.file.0) c.in_default-check_reading.is in
     let means : MeansFile kept old command c.in-Some.file.0 = record { empty = sym c.if-not-is_empty.ensures; current = current; meant = meant; served = served } in
     let given = sym (ap range_view c.in-Ok.is) ∙ c.read_range.ensures in
     let inside = (given_is c.in-Some-file_length.length c.meant_offset-offset.result c.args.c.now.ne c.in-Ok.count c.in-Ok.status.0 given).0 in
@@ -90,6 +91,7 @@ returns-clause-told g c = λ channel.
     let reply : said ≡ read_reply (drop (offset_meant command) (unwrap_or (bytes_of_file kept (Some c.in-Some.file.0)) [])) c.args.c.now.ne =
     put ∙ range_is (held_file (g.E.Eeprom.cells c.args.cells.now) c.in-Some.file.0) c.in-Some-file_length.length c.meant_offset-offset.result c.args.c.now.ne c.in-Ok.count _ c.in-Ok.status.0 c.in-Some-file_length.ensures.length given c.put_answer.ensures.content
     ∙ ap (λ (n : ℕ). read_reply (drop n (unwrap_or (held_file (g.E.Eeprom.cells c.args.cells.now) c.in-Some.file.0) [])) c.args.c.now.ne) c.meant_offset-offset.ensures in
-    carried ReadBinary kept old command c.answered.result said refl passes out.0 out.2
+    let change = ap (λ (x : Change). with_change x (without_run (state c.args.session.now later))) c.naming.ensures ∙ file_named (is_by_short command) c.in-Some.file _ in
+    carried ReadBinary kept old command (reacted c.answered.result c.leave.new.self) said refl passes out.0 out.1
     (reply ∙ read_answers kept old command _ meant)
-    (ap (λ (s : Session). state s later) out.1 ∙ c.after_read.ensures later ∙ read_leaves kept old command _ meant)
+    (c.leave.ensures.left later ∙ change ∙ read_leaves kept old command _ meant)

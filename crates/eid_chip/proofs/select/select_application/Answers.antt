@@ -1,11 +1,13 @@
 -- Carried out: the body is the application's identifier.
-use Rattle.std.proofs.Common.{◌≡◌, ◌∙◌, ap, true, arith, refl, length}
+use Rattle.std.proofs.Common.{◌≡◌, ◌∙◌, ap, true, arith, refl, length, None}
 use Rattle.std.specs.Prelude.{nat_le, option_map}
 use Rattle.std.proofs.lemmas.Bool.Decides.{nat_tests}
 use Rattle.eid_model.specs.declared.kind.Kind.TheVariants.{SelectApplication}
 use Rattle.eid_apdu.specs.Command.{plain_command}
 use Rattle.eid_apdu.specs.Answer.{plain_reply}
 use Rattle.eid_model.specs.Kinds.{application_id}
+use Rattle.eid_chip.specs.declared.session.Memory.{Memory}
+use Rattle.eid_chip.specs.Endings.{reacted}
 use Rattle.eid_chip.specs.Transitions.{two_messages_later}
 use Rattle.eid_chip.specs.declared.session.Session.{Session}
 use Rattle.eid_chip.specs.States.{state}
@@ -17,8 +19,11 @@ pub returns-clause-told : goal.returns-clause-told
 returns-clause-told c = λ kept channel.
     let few : nat_le (length c.args.c.now.body.now) 16 ≡ true = grind (arith, nat_tests) in
     let same = same_of c.args.c.now.body.now _ application_id c.if-ne.ensures c.as_slice.ensures in
-    let passes = application_passes kept (state c.args.session channel) (plain_command c.args.c.now) (filled _ c.if-is_empty.ensures) few same in
+    let passes = application_passes kept (state c.args.session.now channel) (plain_command c.args.c.now) (filled _ c.if-is_empty.ensures) few same in
     let later = option_map two_messages_later channel in
     let out = c.carried_out.ensures.did in
-    carried SelectApplication kept (state c.args.session channel) (plain_command c.args.c.now) c.carried_out.result (plain_reply c.carried_out.new.reply) refl passes out.0 out.3 out.1
-    (ap (λ (s : Session). state s (option_map two_messages_later channel)) out.2 ∙ idle_state c.idle.result _ later c.idle.ensures.0 c.idle.ensures.1 ∙ application_leaves kept.fields (state c.args.session channel) (plain_command c.args.c.now))
+    let idle = c.end_run.ensures.idle in
+    let chosen : Memory → Memory = λ m. record m { selected = true; current = None } in
+    let left : Session = record c.end_run.new.self { memory = chosen c.end_run.new.self.memory } in
+    carried SelectApplication kept (state c.args.session.now channel) (plain_command c.args.c.now) (reacted c.carried_out.result left) (plain_reply c.carried_out.new.reply) refl passes out.0 out.2 out.1
+    (idle_state left (chosen c.args.session.now.memory) later idle.0 idle.1 (ap chosen c.end_run.ensures.memory) ∙ application_leaves kept.fields (state c.args.session.now channel) (plain_command c.args.c.now))

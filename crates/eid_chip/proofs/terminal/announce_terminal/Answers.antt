@@ -7,6 +7,7 @@ use Rattle.eid_cvc.specs.Chains.{known_view}
 use Rattle.eid_ta.specs.View.{announced_view, announcement_view}
 use Rattle.eid_ta.proofs.AnnouncementFacts.{sent_within}
 use Rattle.eid_model.specs.declared.kind.Kind.TheVariants.{AnnounceTerminal}
+use Rattle.eid_chip.specs.Endings.{reacted}
 use Rattle.eid_chip.specs.States.{state}
 use Rattle.eid_chip.specs.Transitions.{two_messages_later}
 use Rattle.eid_chip.specs.declared.session.LastPace.{LastPace}
@@ -25,15 +26,15 @@ begin-requires c =
 
 pub returns-in-Ok-begin-clause-told : goal.returns-in-Ok-begin-clause-told
 returns-in-Ok-begin-clause-told c = λ kept channel.
-    let old = state c.args.session channel in
+    let old = state c.args.session.now channel in
     let command = plain_command c.args.c.now in
     let found = formed_so _ (announcement_view c.in-Ok.announcement) c.in-Ok.ensures in
-    let given = template_so c.args.session.memory.pace c.in-Some.pace c.in-Some.is c.if-is_none.ensures in
-    let unknown = some_after known_view c.args.session.memory.terminal ∙ sym c.if-is_some.ensures in
+    let given = template_so c.args.session.now.memory.pace c.in-Some.pace c.in-Some.is c.if-is_none.ensures in
+    let unknown = some_after known_view c.args.session.now.memory.terminal ∙ sym c.if-is_some.ensures in
     let identity = ap (option_map (λ (pace : LastPace). pace.identity)) c.in-Some.is in
     let announced = announced_view c.in-Ok-begin.announced in
     let passes = announcement_passes kept old command (announcement_view c.in-Ok.announcement) announced found given.0 given.1 unknown c.in-Ok-begin.ensures in
     let out = c.carried_out.ensures.did in
-    carried AnnounceTerminal kept old command c.carried_out.result (plain_reply c.carried_out.new.reply) refl passes out.0 out.3 out.1
-    (ap (λ (s : Session). state s (option_map two_messages_later channel)) out.2
+    carried AnnounceTerminal kept old command (reacted c.carried_out.result c.authenticate.new.self) (plain_reply c.carried_out.new.reply) refl passes out.0 out.2 out.1
+    (ap (λ (s : Session). state s (option_map two_messages_later channel)) c.authenticate.ensures
     ∙ announcement_leaves kept old command (announcement_view c.in-Ok.announcement) c.in-Some.pace.identity announced found (rw c.in-Some.is refl) c.in-Ok-begin.ensures)
